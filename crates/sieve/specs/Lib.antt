@@ -1,0 +1,9 @@
+pub mod Bytes
+pub mod Lines
+pub mod Characters
+pub mod Rules
+pub mod Verdict
+pub mod Paper
+pub mod Places
+pub mod Reading
+pub mod Writing

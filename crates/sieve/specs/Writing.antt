@@ -1,0 +1,68 @@
+-- The writer's whole answer for any text, list of places, count, break and destination, and what the destination then holds. Assumes nothing.
+use Prim.Native.Nat.{ℕ, zero, suc, _+_}
+use mathlib.Core.Bool.{Bool, true, false, _||_, not}
+use mathlib.Core.List.{List, [], _∷_, _++_, map}
+use mathlib.Core.Option.{Option, some, none, Option·map}
+use lib.Dec.{eqb, ltb}
+use lib.ListN.{getD, take, drop, length}
+use Rattle.sieve.specs.declared.Break.{Break}
+use Rattle.sieve.specs.Bytes.{Bytes, within, firstSuch}
+use Rattle.sieve.specs.Lines.{joined}
+use Rattle.sieve.specs.Rules.{Layout}
+use Rattle.sieve.specs.Verdict.{Refusal, under, underAt, found, findings, first}
+use Rattle.sieve.specs.Paper.{Laying, laid, not-laid}
+use Rattle.sieve.specs.Places.{Placed, entryNumbers, placed, listSize}
+use Rattle.sieve.specs.Reading.{Done, noRoom}
+
+-- a line's place in the text
+pub record Span : Type 0 where
+  pub start : ℕ
+  pub bytes : ℕ
+
+-- the places that the first n entries of a list give
+unfoldable pub spans : ℕ → List ℕ → List Span
+spans zero list = []
+spans (suc n) list = record { start = getD list 0 0; bytes = getD list 1 0 } ∷ spans n (drop entryNumbers list)
+
+-- the part of the text that lies at a place
+abbrev pub part : Bytes → Span → Bytes
+part text s = take (s .bytes) (drop (s .start) text)
+
+-- the lines that are handed to the writer
+unfoldable pub handed : Bytes → List ℕ → ℕ → List Bytes
+unfolding spans
+handed text list count = map (part text) (spans count list)
+
+-- 14: a line's place lies outside the text
+abbrev pub outsideText : Bytes → List Span → Option Refusal
+unfolding firstSuch
+outsideText text places = Option·map (under 14) (firstSuch (λ s. ltb (length text) (s .start + s .bytes)) 1 places)
+
+-- 3: CR or LF in a line; that line, and the byte's place in the joined bytes
+unfoldable pub strayBreak : ℕ → List Placed → Option Refusal
+unfolding firstSuch
+strayBreak i [] = none
+strayBreak i (l ∷ ls) = elim (firstSuch (λ x. eqb x 10 || eqb x 13) (l .start) (l .text)) [ some at ↦ some (underAt 3 i at) | none ↦ strayBreak (suc i) ls ]
+
+-- what the writer finds, in its order: the list, the count, places, stray breaks, what the reader finds in the joined bytes, room
+unfoldable pub writeFindings : Layout → Bytes → List ℕ → ℕ → Break → ℕ → List (Option Refusal)
+unfolding handed spans strayBreak placed findings first
+writeFindings L text list count k room =
+    let ls = handed text list count in
+    let bytes = joined k ls in
+    noRoom (length list) (listSize L)
+    ∷ found (not (within (L .fewest-lines) (L .most-lines) count)) (under 5 count)
+    ∷ outsideText text (spans count list)
+    ∷ strayBreak 1 (placed 0 k ls)
+    ∷ first (findings L bytes)
+    ∷ noRoom room (length bytes)
+    ∷ []
+
+-- the joined bytes, in the front of the destination, where nothing is found
+abbrev pub laidOnto : Bytes → Bytes → Option Refusal → Done Laying
+laidOnto bytes dest none = record { answer = laid (length bytes); lent = bytes ++ drop (length bytes) dest }
+laidOnto bytes dest (some r) = record { answer = not-laid r; lent = dest }
+
+unfoldable pub writeAnswer : Layout → Bytes → List ℕ → ℕ → Break → Bytes → Done Laying
+unfolding handed writeFindings first
+writeAnswer L text list count k dest = laidOnto (joined k (handed text list count)) dest (first (writeFindings L text list count k (length dest)))

@@ -1,0 +1,36 @@
+-- The forms that lines take. Assumes nothing.
+use Prim.Native.Nat.{ℕ, _-_}
+use mathlib.Core.Bool.{Bool, _&&_, _||_, not}
+use lib.Dec.{eqb, leb}
+use lib.ListN.{getD, take, drop, length}
+use Rattle.sieve.specs.Bytes.{Bytes, ascii, within, same, every}
+use Rattle.swiss.specs.Letters.{digit, capital, digitOrCapital, alphanumeric}
+
+-- CH or LI, two digits, five digits (the IID), twelve of 0-9 A-Z
+abbrev pub iban : Bytes → Bool
+iban s =
+    eqb (length s) 21 && (same (take 2 s) (ascii "CH") || same (take 2 s) (ascii "LI")) && every digit (take 7 (drop 2 s))
+    && every digitOrCapital (take 12 (drop 9 s))
+
+-- two letters A-Z
+abbrev pub country : Bytes → Bool
+country s = eqb (length s) 2 && every capital s
+
+-- one or more digits, a point, two digits; no leading zero, save one zero below 1.00; not 0.00
+abbrev pub amount : Bytes → Bool
+amount s =
+    let whole = take (length s - 3) s in
+    leb 4 (length s) && every digit whole && eqb (getD s (length s - 3) 0) 46 && every digit (drop (length s - 2) s)
+    && (eqb (length whole) 1 || not (eqb (getD whole 0 0) 48)) && not (same s (ascii "0.00"))
+
+-- two slashes, then two of 0-9 A-Z a-z, then anything allowed
+abbrev pub billing : Bytes → Bool
+billing s = leb 4 (length s) && same (take 2 s) (ascii "//") && every alphanumeric (take 2 (drop 2 s))
+
+-- 27 digits, not all zero
+abbrev pub qrr : Bytes → Bool
+qrr s = eqb (length s) 27 && every digit s && not (every (λ x. eqb x 48) s)
+
+-- RF, two digits, one to 21 of A-Z a-z 0-9
+abbrev pub scor : Bytes → Bool
+scor s = within 5 25 (length s) && same (take 2 s) (ascii "RF") && every digit (take 2 (drop 2 s)) && every alphanumeric (drop 4 s)

@@ -1,0 +1,11 @@
+pub mod Limits
+pub mod Latin
+pub mod Letters
+pub mod Mod97
+pub mod Mod10
+pub mod Forms
+pub mod Kinds
+pub mod Swiss
+pub mod Notation
+pub mod Table
+pub mod SecondTable
