@@ -1,0 +1,70 @@
+"""Run the reference over every case, and check what follows from each of its answers.
+
+Prints a line for each failure and at the end `N passed, M failed`.
+"""
+
+import sys
+from pathlib import Path
+
+from casefile import BREAKS, CaseFileError, read_cases
+from reference.qrbill import Accepted, Refused, Written, answer_text, read, write
+from writer_order import writer_checks
+
+CASES = Path(__file__).resolve().parent / 'cases'
+
+
+def checks_of_case(case):
+    """Each check of a case as its name, what should come out, and what does."""
+    answer = read(case.payload)
+    yield 'answer', case.answer, answer_text(answer)
+    if isinstance(answer, Accepted):
+        yield from checks_of_accepted(case.payload, answer)
+    else:
+        # Too small a list is told only when nothing else is wrong.
+        yield 'read with 67 numbers', answer, read(case.payload, 67)
+
+
+def checks_of_accepted(payload, answer):
+    """The places give the payload back, by hand and by the writer; too little room does not."""
+    count, brk, places = answer
+    cut = [payload[places[2 * line]:places[2 * line] + places[2 * line + 1]]
+           for line in range(count)]
+    yield 'lines joined', payload, BREAKS[brk].join(cut)
+    yield 'absent lines', (34 - count) * [len(payload), 0], places[2 * count:]
+    yield 'read with 67 numbers', Refused(15, 0), read(payload, 67)
+    exact = len(payload)
+    yield 'write', Written(payload), write(payload, places, count, brk, exact)
+    yield 'write with a byte less', Refused(15, 0), write(payload, places, count, brk, exact - 1)
+
+
+def all_checks():
+    """The checks of all cases and of the writer, each with where it comes from."""
+    cases = read_cases(CASES)
+    if not cases:
+        yield CASES.name, 'cases', 'at least one', 'none'
+    for case in cases:
+        for name, expected, got in checks_of_case(case):
+            yield case.file, f'{case.name}: {name}', expected, got
+    for name, expected, got in writer_checks():
+        yield 'writer_order.py', name, expected, got
+
+
+def main():
+    """Count and print; the exit status is 1 if anything failed."""
+    passed = failed = 0
+    try:
+        for place, name, expected, got in all_checks():
+            if expected == got:
+                passed += 1
+            else:
+                failed += 1
+                print(f'{place}: {name}: expected {expected}, got {got}')
+    except CaseFileError as error:
+        failed += 1
+        print(error)
+    print(f'{passed} passed, {failed} failed')
+    return 1 if failed else 0
+
+
+if __name__ == '__main__':
+    sys.exit(main())
