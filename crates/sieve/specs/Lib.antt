@@ -7,3 +7,7 @@ pub mod Paper
 pub mod Places
 pub mod Reading
 pub mod Writing
+pub mod Lawful
+pub mod Keeps
+pub mod Breaks
+pub mod Demand
