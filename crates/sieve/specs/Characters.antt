@@ -1,7 +1,7 @@
 -- Allowed characters, over any set of them, and the walk over characters and breaks. Assumes nothing.
 use Prim.Native.Nat.{ℕ, zero, suc, _+_}
-use mathlib.Core.Bool.{Bool, true, false, cond, _&&_}
-use mathlib.Core.List.{List, [], _∷_, _++_}
+use mathlib.Core.Bool.{cond, _&&_}
+use mathlib.Core.List.{[], _∷_, _++_}
 use mathlib.Core.Option.{Option, some, none}
 use mathlib.Core.Path.{_≡_}
 use lib.Dec.{eqb}
@@ -23,19 +23,16 @@ breakWidth s = cond (eqb (getD s 0 0) 10) 1 (cond (eqb (getD s 0 0) 13 && eqb (g
 
 -- the same of a character or a break
 unfoldable pub passes : Width → Width
-unfolding breakWidth
 passes w s = cond (eqb (w s) 0) (breakWidth s) (w s)
 
 -- walking on from place i, with `skip` bytes of a character or a break still to pass:
 -- the first place where neither a character nor a break begins
 unfoldable pub walk : Width → ℕ → Bytes → ℕ → Option ℕ
-unfolding passes
 walk w skip [] i = none
 walk w (suc k) (x ∷ s) i = walk w k s (suc i)
 walk w zero (x ∷ s) i = elim (passes w (x ∷ s)) [ suc n ↦ walk w n s (suc i) | zero ↦ some i ]
 
 unfoldable pub badPlace : Width → Bytes → Option ℕ
-unfolding walk
 badPlace w s = walk w 0 s 0
 
 -- bytes other than 80 to BF: of allowed text, its characters

@@ -1,7 +1,7 @@
 -- When a bill keeps every rule of a layout. Nothing here mentions a reader. Assumes nothing.
-use Prim.Native.Nat.{ℕ, _≤_}
+use Prim.Native.Nat.{_≤_}
 use mathlib.Core.Bool.{false}
-use mathlib.Core.List.{List, List·Memᴰ}
+use mathlib.Core.List.{List·Memᴰ}
 use mathlib.Core.Path.{_≡_}
 use lib.ListN.{length}
 use Rattle.sieve.specs.Bytes.{Bytes}

@@ -80,5 +80,4 @@ sameBreak CrLf CrLf = true
 
 -- the bill that any bytes are read as
 unfoldable pub billOf : Bytes → Bill
-unfolding cut
 billOf p = record { lines = linesOf (cut p); break = kind (breaksOf (cut p)) }

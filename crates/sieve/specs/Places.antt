@@ -32,7 +32,6 @@ entries (suc n) end (l ∷ ls) = entry (l .start) (l .text) ++ entries n end ls
 
 -- an entry for each line that the layout may have
 unfoldable pub placesOf : Layout → Bill → List ℕ
-unfolding placed entries written
 placesOf L b = entries (L .most-lines) (length (written b)) (placed 0 (b .break) (b .lines))
 
 -- how many numbers that are

@@ -21,11 +21,9 @@ noRoom room wanted = found (ltb room wanted) (under 15 0)
 
 -- the verdict; of an accepted payload then room; then the places, in the front of the list
 abbrev pub readOnto : Layout → Bytes → List ℕ → Verdict → Option Refusal → Done Verdict
-unfolding billOf placesOf
 readOnto L p list (refused r) o = record { answer = refused r; lent = list }
 readOnto L p list (accepted n k) (some r) = record { answer = refused r; lent = list }
 readOnto L p list (accepted n k) none = record { answer = accepted n k; lent = placesOf L (billOf p) ++ drop (listSize L) list }
 
 unfoldable pub readAnswer : Layout → Bytes → List ℕ → Done Verdict
-unfolding verdict
 readAnswer L p list = readOnto L p list (verdict L p) (noRoom (length list) (listSize L))

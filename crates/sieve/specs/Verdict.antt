@@ -1,5 +1,5 @@
 -- The sieve of a layout held against any bytes, and the verdict: the first refusal that it finds. Assumes nothing.
-use Prim.Native.Nat.{ℕ, suc, _+_}
+use Prim.Native.Nat.{ℕ, _+_}
 use mathlib.Core.Bool.{Bool, true, false, not}
 use mathlib.Core.List.{List, [], _∷_, map}
 use mathlib.Core.Option.{Option, some, none, Option·map}
@@ -7,7 +7,7 @@ use lib.Dec.{eqb, ltb}
 use lib.ListN.{take, length}
 use Rattle.sieve.specs.declared.Break.{Break}
 use Rattle.sieve.specs.Bytes.{Bytes, within, firstSuch}
-use Rattle.sieve.specs.Lines.{Bill, Cut, cut, linesOf, breaksOf, kind, sameBreak, billOf}
+use Rattle.sieve.specs.Lines.{Bill, cut, linesOf, breaksOf, kind, sameBreak, billOf}
 use Rattle.sieve.specs.Characters.{badPlace, lineFeeds}
 use Rattle.sieve.specs.Rules.{Rule, Layout}
 
@@ -42,12 +42,10 @@ tooManyBytes L p = found (ltb (L .most-bytes) (length p)) (under 2 0)
 
 -- 3: a place where neither a character nor a break begins; 1 + LF bytes before the first such place
 abbrev pub badCharacter : Layout → Bytes → List Bytes → Option Refusal
-unfolding badPlace lineFeeds
 badCharacter L p ls = Option·map (λ at. underAt 3 (1 + lineFeeds (take at p)) at) (badPlace (L .width ls) p)
 
 -- 4: a break unlike the first one; the line that the earliest such break ends
 abbrev pub mixedBreaks : List Break → Option Refusal
-unfolding firstSuch
 mixedBreaks ks = Option·map (under 4) (firstSuch (λ k. not (sameBreak (kind ks) k)) 1 ks)
 
 -- 5: too few lines or too many; the count
@@ -60,7 +58,6 @@ aboutLines ls r = found (r .broken ls) (under (r .number) (r .line))
 
 -- what each rule of the sieve finds in a payload, in order: first the whole payload, then its lines
 unfoldable pub findings : Layout → Bytes → List (Option Refusal)
-unfolding cut
 findings L p =
     let c = cut p in
     let ls = linesOf c in
@@ -76,5 +73,4 @@ settled b none = accepted (length (b .lines)) (b .break)
 settled b (some r) = refused r
 
 unfoldable pub verdict : Layout → Bytes → Verdict
-unfolding billOf findings first
 verdict L p = settled (billOf p) (first (findings L p))

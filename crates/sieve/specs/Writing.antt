@@ -1,6 +1,6 @@
 -- The writer's whole answer for any text, list of places, count, break and destination, and what the destination then holds. Assumes nothing.
 use Prim.Native.Nat.{ℕ, zero, suc, _+_}
-use mathlib.Core.Bool.{Bool, true, false, _||_, not}
+use mathlib.Core.Bool.{_||_, not}
 use mathlib.Core.List.{List, [], _∷_, _++_, map}
 use mathlib.Core.Option.{Option, some, none, Option·map}
 use lib.Dec.{eqb, ltb}
@@ -30,23 +30,19 @@ part text s = take (s .bytes) (drop (s .start) text)
 
 -- the lines that are handed to the writer
 unfoldable pub handed : Bytes → List ℕ → ℕ → List Bytes
-unfolding spans
 handed text list count = map (part text) (spans count list)
 
 -- 14: a line's place lies outside the text
 abbrev pub outsideText : Bytes → List Span → Option Refusal
-unfolding firstSuch
 outsideText text places = Option·map (under 14) (firstSuch (λ s. ltb (length text) (s .start + s .bytes)) 1 places)
 
 -- 3: CR or LF in a line; that line, and the byte's place in the joined bytes
 unfoldable pub strayBreak : ℕ → List Placed → Option Refusal
-unfolding firstSuch
 strayBreak i [] = none
 strayBreak i (l ∷ ls) = elim (firstSuch (λ x. eqb x 10 || eqb x 13) (l .start) (l .text)) [ some at ↦ some (underAt 3 i at) | none ↦ strayBreak (suc i) ls ]
 
 -- what the writer finds, in its order: the list, the count, places, stray breaks, what the reader finds in the joined bytes, room
 unfoldable pub writeFindings : Layout → Bytes → List ℕ → ℕ → Break → ℕ → List (Option Refusal)
-unfolding handed spans strayBreak placed findings first
 writeFindings L text list count k room =
     let ls = handed text list count in
     let bytes = joined k ls in
@@ -64,5 +60,4 @@ laidOnto bytes dest none = record { answer = laid (length bytes); lent = bytes +
 laidOnto bytes dest (some r) = record { answer = not-laid r; lent = dest }
 
 unfoldable pub writeAnswer : Layout → Bytes → List ℕ → ℕ → Break → Bytes → Done Laying
-unfolding handed writeFindings first
 writeAnswer L text list count k dest = laidOnto (joined k (handed text list count)) dest (first (writeFindings L text list count k (length dest)))

@@ -1,5 +1,5 @@
 -- The forms that lines take. Assumes nothing.
-use Prim.Native.Nat.{ℕ, _-_}
+use Prim.Native.Nat.{_-_}
 use mathlib.Core.Bool.{Bool, _&&_, _||_, not}
 use lib.Dec.{eqb, leb}
 use lib.ListN.{getD, take, drop, length}

@@ -20,7 +20,6 @@ filled n when = record { number = 8; line = n; broken = λ ls. when ls && isEmpt
 
 -- 9: over its length
 abbrev pub atMost : ℕ → ℕ → Rule
-unfolding characters
 atMost most n = record { number = 9; line = n; broken = λ ls. ltb most (characters (line n ls)) }
 
 -- 10: not empty and not of its form

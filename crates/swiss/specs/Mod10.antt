@@ -16,10 +16,8 @@ carry c (x ∷ s) = carry (getD nextCarry ((c + (x - 48)) % 10) 0) s
 
 -- the check digit, as a byte, that a run of digits asks for
 unfoldable pub checkDigit : Bytes → ℕ
-unfolding carry
 checkDigit s = 48 + (10 - carry 0 s) % 10
 
 -- the 27th digit is the one that the first 26 ask for
 abbrev pub checks10 : Bytes → Bool
-unfolding checkDigit
 checks10 s = eqb (getD s 26 0) (checkDigit (take 26 s))

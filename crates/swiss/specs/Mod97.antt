@@ -1,7 +1,7 @@
 -- ISO 7064 MOD 97-10, for a text of any length. Assumes nothing.
 use Prim.Native.Nat.{ℕ, _+_, _-_, _*_, _%_}
 use mathlib.Core.Bool.{Bool, cond}
-use mathlib.Core.List.{List, [], _∷_, _++_}
+use mathlib.Core.List.{[], _∷_, _++_}
 use lib.Dec.{eqb}
 use lib.ListN.{take, drop}
 use Rattle.sieve.specs.Bytes.{Bytes}
@@ -22,9 +22,7 @@ number n (x ∷ s) = number (onto n x) s
 
 -- the first four characters moved to the end, read as one decimal number: its remainder by 97
 unfoldable pub remainder97 : Bytes → ℕ
-unfolding number
 remainder97 s = number 0 (drop 4 s ++ take 4 s) % 97
 
 abbrev pub checks97 : Bytes → Bool
-unfolding remainder97
 checks97 s = eqb (remainder97 s) 1

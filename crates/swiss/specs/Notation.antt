@@ -10,7 +10,7 @@ use lib.ListN.{set}
 use Rattle.sieve.specs.declared.Break.{Break}
 use Rattle.sieve.specs.Bytes.{Bytes, ascii}
 use Rattle.sieve.specs.Lines.{joined, sameBreak}
-use Rattle.sieve.specs.Verdict.{Refusal, Verdict, accepted, refused, verdict}
+use Rattle.sieve.specs.Verdict.{Verdict, accepted, refused, verdict}
 use Rattle.swiss.specs.Swiss.{swiss}
 
 -- a text as lines: `|` stands for a break
@@ -58,6 +58,5 @@ sameVerdict (refused r) (refused q) = eqb (r .number) (q .number) && eqb (r .lin
 
 -- the rules give each case what the table says
 unfoldable pub right : List Case → Bool
-unfolding verdict swiss
 right [] = true
 right (c ∷ cs) = sameVerdict (verdict swiss (c .payload)) (c .gives) && right cs

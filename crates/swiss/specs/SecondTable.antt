@@ -7,7 +7,7 @@ use Rattle.sieve.specs.declared.Break.the-variants.{Lf, CrLf}
 use Rattle.sieve.specs.Bytes.{Bytes, ascii, firstSuch}
 use Rattle.sieve.specs.Lines.{breakBytes, joined, cut, billOf}
 use Rattle.sieve.specs.Characters.{breakWidth, passes, walk, badPlace, characters, lineFeeds}
-use Rattle.sieve.specs.Verdict.{under, underAt, Verdict, accepted, refused, findings, first, verdict}
+use Rattle.sieve.specs.Verdict.{under, underAt, accepted, refused, findings, first, verdict}
 use Rattle.swiss.specs.Latin.{latin}
 use Rattle.swiss.specs.Mod97.{number, remainder97}
 use Rattle.swiss.specs.Mod10.{carry, checkDigit}

@@ -8,8 +8,8 @@ use Rattle.sieve.specs.Bytes.{Bytes, within}
 use Rattle.sieve.specs.Characters.{characters}
 use Rattle.sieve.specs.Rules.{Rule, Layout, When, line, isEmpty, is, has, isLast, always, never, unless}
 use Rattle.swiss.specs.Latin.{latin}
-use Rattle.swiss.specs.Mod97.{number, remainder97, checks97}
-use Rattle.swiss.specs.Mod10.{carry, checkDigit, checks10}
+use Rattle.swiss.specs.Mod97.{number, checks97}
+use Rattle.swiss.specs.Mod10.{checks10}
 use Rattle.swiss.specs.Limits.{mostBytes, fewestLines, mostLines, nameMost, streetMost, houseNumberMost, postcodeMost, townMost, amountMost, messageMost, billingMost, togetherMost, procedureMost, firstQrIid, lastQrIid, qrType, version, coding, trailer, structured, francs, euros, qrReference, creditorReference, noReference}
 use Rattle.swiss.specs.Kinds.{fixed, empty, filled, atMost, formed, checked}
 use Rattle.swiss.specs.Forms.{iban, country, amount, billing, qrr, scor}
@@ -69,7 +69,6 @@ information =
 
 -- the IBAN's IID makes it a QR-IBAN
 abbrev pub qrIban : When
-unfolding number
 qrIban ls = within firstQrIid lastQrIid (number 0 (take 5 (drop 4 (line 4 ls))))
 
 -- QRR stands exactly with a QR-IBAN, and only with CHF
@@ -80,11 +79,9 @@ abbrev pub pairing : Rule
 pairing = record { number = 12; line = 28; broken = unless paired }
 
 abbrev pub together : Rule
-unfolding characters
 together = record { number = 13; line = 32; broken = λ ls. ltb togetherMost (characters (line 30 ls) + characters (line 32 ls)) }
 
 unfoldable pub rules : List Rule
-unfolding characters number remainder97 carry checkDigit flatten
 rules =
     flatten
     (header
@@ -99,5 +96,4 @@ rules =
     ∷ [])
 
 unfoldable pub swiss : Layout
-unfolding rules latin
 swiss = record { most-bytes = mostBytes; fewest-lines = fewestLines; most-lines = mostLines; width = λ ls. latin; rules = rules }

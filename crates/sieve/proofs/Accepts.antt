@@ -1,0 +1,120 @@
+-- The verdict of every layout with lawful characters accepts exactly its bills. Assumes nothing.
+use Prim.Native.Nat.{ℕ, _≤_}
+use native.Mathlib.Omega.{arith}
+use mathlib.Core.Bool.{true, false, not, and-eq-true-iff, true≢false}
+use mathlib.Core.List.{List, [], _∷_, _++_, map, List·Memᴰ, List·Memᴰ·head, List·Memᴰ·tail, List·Memᴰ·not-nil, List·Memᴰ·cases-cons}
+use mathlib.Core.Logic.{_⊎_, inl, inr}
+use mathlib.Core.Option.{map-eq-none-iff}
+use mathlib.Core.Path.{_≡_, refl, sym, _∙_, ap}
+use lib.Dec.{eqb, leb, eqb·suc-zero}
+use lib.ListN.{length}
+use borrow.Author.Tests.{ltb-false, leb-true, le-ltb, le-leb, not-false}
+use Rattle.sieve.specs.declared.Break.{Break}
+use Rattle.sieve.specs.declared.Break.the-variants.{Lf, CrLf}
+use Rattle.sieve.specs.Bytes.{Bytes, within}
+use Rattle.sieve.specs.Lines.{Next, Bill, cut, breakBytes, afterBreaks, joined, written, linesOf, breaksOf, kind, sameBreak, billOf}
+use Rattle.sieve.specs.Rules.{Layout}
+use Rattle.sieve.specs.Verdict.{accepted, findings, first, verdict}
+use Rattle.sieve.specs.Lawful.{Lawful}
+use Rattle.sieve.specs.Keeps.{Keeps}
+use Rattle.sieve.specs.Demand.{Is, AcceptsExactly}
+use Rattle.sieve.proofs.Cutting.{tail, glued-cut, nexts, cut-joined}
+use Rattle.sieve.proofs.Walking.{no-bad-place, texts, text-clean}
+use Rattle.sieve.proofs.Findings.{found-none, settled-accepts, verdict-is, Clear, clear, clear-first, all-unbroken, none-broken, none-such, such-none}
+
+-- breaks
+
+like : (k j : Break) → not (sameBreak k j) ≡ false → j ≡ k
+like Lf Lf h = refl
+like CrLf CrLf h = refl
+like Lf CrLf h = absurd (true≢false h)
+like CrLf Lf h = absurd (true≢false h)
+
+like-itself : (k : Break) → not (sameBreak k k) ≡ false
+like-itself Lf = refl
+like-itself CrLf = refl
+
+-- where every break is like k, the lines with k between them are the bytes that were cut
+alike : (k : Break) (ns : List Next) → ((j : Break) → List·Memᴰ j (map (λ n. n .break) ns) → j ≡ k) → afterBreaks k (map (λ n. n .line) ns) ≡ tail ns
+alike k [] h = refl
+alike k (n ∷ ns) h = rw (h (n .break) (List·Memᴰ·head refl), alike k ns (λ j m. h j (List·Memᴰ·tail m)))
+
+lines-back : (k : Break) (ls : List Bytes) → map (λ n. n .line) (nexts k ls) ≡ ls
+lines-back k [] = refl
+lines-back k (l ∷ ls) = ap (λ (t : List Bytes). l ∷ t) (lines-back k ls)
+
+breaks-back : (k : Break) (ls : List Bytes) (j : Break) → List·Memᴰ j (map (λ n. n .break) (nexts k ls)) → j ≡ k
+breaks-back k [] j m = absurd (List·Memᴰ·not-nil m)
+breaks-back k (l ∷ ls) j m = go (List·Memᴰ·cases-cons m) (breaks-back k ls j)
+  where
+    go : (j ≡ k) ⊎ List·Memᴰ j (map (λ n. n .break) (nexts k ls)) → (List·Memᴰ j (map (λ n. n .break) (nexts k ls)) → j ≡ k) → j ≡ k
+    go (inl e) ih = e
+    go (inr m) ih = ih m
+
+not-empty : (k : Break) (l s : Bytes) → eqb (length (l ++ (breakBytes k ++ s))) 0 ≡ false
+not-empty k (x ∷ l) s = rw eqb·suc-zero
+not-empty Lf [] s = rw eqb·suc-zero
+not-empty CrLf [] s = rw eqb·suc-zero
+
+within-both : (lo hi n : ℕ) → within lo hi n ≡ true → (lo ≤ n) × (n ≤ hi)
+within-both lo hi n h = let (a, b) = and-eq-true-iff (leb lo n) _ .0 h in (leb-true _ _ a, leb-true _ _ b)
+
+module _ (L : Layout) (laws : (ls : List Bytes) → Lawful (L .width ls)) where
+  sound : (p : Bytes) (n : ℕ) (k : Break) → verdict L p ≡ accepted n k → (b : Bill) × Is L p n k b
+  unfolding billOf written
+  sound p n k h =
+      let c = cut p in
+      let ls = linesOf c in
+      let j = kind (breaksOf c) in
+      let (nothing, count, break) = settled-accepts (billOf p) (first (findings L p)) (sym (verdict-is L p) ∙ h) in
+      let all = clear L p nothing in
+      let (least, most) = within-both _ _ _ (not-false _ (found-none _ _ (all .counted))) in
+      let unmixed = such-none (λ k. not (sameBreak j k)) 1 (breaksOf c) (map-eq-none-iff _ _ .0 (all .unmixed)) in
+      let same : joined j ls ≡ p = ap (λ (t : Bytes). c .first ++ t) (alike j (c .rest) (λ k m. like j k (unmixed k m))) ∙ glued-cut p in (
+        billOf p,
+        record {
+          keeps = record {
+            enough = least;
+            not-too-many = most;
+            text = texts (L .width ls) (laws ls) p (map-eq-none-iff _ _ .0 (all .good));
+            fits = rw same (ltb-false _ _ (found-none _ _ (all .not-too-many)));
+            unbroken = all-unbroken (L .rules) ls (all .kept);
+          };
+          writes = same;
+          count = count;
+          break = break;
+        },
+      )
+
+  -- what the bytes of a bill that keeps the rules come to
+  record Back (b : Bill) : Type 0 where
+    bill-is : billOf (written b) ≡ b
+    nothing-found : Clear L (written b)
+
+  module _ (fewest : 2 ≤ L .fewest-lines) where
+    back : (k : Break) (ls : List Bytes) → Keeps L (record { lines = ls; break = k }) → Back (record { lines = ls; break = k })
+    unfolding written billOf
+    back k [] h = let a = h .enough in absurd (omega arith)
+    back k (l ∷ []) h = let a = h .enough in absurd (omega arith)
+    back k (l ∷ m ∷ ls) h =
+        let all = l ∷ m ∷ ls in
+        let e = cut-joined k l (m ∷ ls) (λ t i. text-clean (L .width all) (laws all) (h .text t i)) in
+        let f = lines-back k ls in
+        record {
+          bill-is = rw (e, f);
+          nothing-found = record {
+            some-bytes = rw (not-empty k l (m ++ afterBreaks k ls));
+            not-too-many = rw (le-ltb _ _ (h .fits));
+            good = rw (e, f, no-bad-place _ (laws all) k all (h .text));
+            unmixed = rw (e, none-such (λ j. not (sameBreak k j)) 1 (k ∷ map (λ n. n .break) (nexts k ls)) (λ j i. rw (breaks-back k (m ∷ ls) j i) (like-itself k)));
+            counted = rw (e, f, le-leb _ _ (h .enough), le-leb _ _ (h .not-too-many));
+            kept = rw (e, f) (none-broken (L .rules) all (h .unbroken));
+          };
+        }
+
+    pub accepts-exactly : AcceptsExactly L (verdict L)
+    accepts-exactly = record {
+      sound = sound;
+      complete = λ b h. let r = back (b .break) (b .lines) h in verdict-is L (written b) ∙ rw (r .bill-is, clear-first L (written b) (r .nothing-found));
+      unique = λ b c h g e. sym (back _ _ h .bill-is) ∙ ap billOf e ∙ back _ _ g .bill-is;
+    }
