@@ -18,21 +18,10 @@ use Rattle.sieve.specs.Verdict.{accepted, findings, first, verdict}
 use Rattle.sieve.specs.Lawful.{Lawful}
 use Rattle.sieve.specs.Keeps.{Keeps}
 use Rattle.sieve.specs.Demand.{Is, AcceptsExactly}
+use Rattle.sieve.proofs.Likeness.{like, like-itself}
 use Rattle.sieve.proofs.Cutting.{tail, glued-cut, nexts, cut-joined}
 use Rattle.sieve.proofs.Walking.{no-bad-place, texts, text-clean}
 use Rattle.sieve.proofs.Findings.{found-none, settled-accepts, verdict-is, Clear, clear, clear-first, all-unbroken, none-broken, none-such, such-none}
-
--- breaks
-
-like : (k j : Break) → not (sameBreak k j) ≡ false → j ≡ k
-like Lf Lf h = refl
-like CrLf CrLf h = refl
-like Lf CrLf h = absurd (true≢false h)
-like CrLf Lf h = absurd (true≢false h)
-
-like-itself : (k : Break) → not (sameBreak k k) ≡ false
-like-itself Lf = refl
-like-itself CrLf = refl
 
 -- where every break is like k, the lines with k between them are the bytes that were cut
 alike : (k : Break) (ns : List Next) → ((j : Break) → List·Memᴰ j (map (λ n. n .break) ns) → j ≡ k) → afterBreaks k (map (λ n. n .line) ns) ≡ tail ns
