@@ -1,7 +1,7 @@
 -- The verdict of every layout with lawful characters accepts exactly its bills. Assumes nothing.
 use Prim.Native.Nat.{ℕ, _≤_}
 use native.Mathlib.Omega.{arith}
-use mathlib.Core.Bool.{true, false, not, and-eq-true-iff, true≢false}
+use mathlib.Core.Bool.{true, false, not, and-eq-true-iff}
 use mathlib.Core.List.{List, [], _∷_, _++_, map, List·Memᴰ, List·Memᴰ·head, List·Memᴰ·tail, List·Memᴰ·not-nil, List·Memᴰ·cases-cons}
 use mathlib.Core.Logic.{_⊎_, inl, inr}
 use mathlib.Core.Option.{map-eq-none-iff}
@@ -12,19 +12,19 @@ use borrow.Author.Tests.{ltb-false, leb-true, le-ltb, le-leb, not-false}
 use Rattle.sieve.specs.declared.Break.{Break}
 use Rattle.sieve.specs.declared.Break.the-variants.{Lf, CrLf}
 use Rattle.sieve.specs.Bytes.{Bytes, within}
-use Rattle.sieve.specs.Lines.{Next, Bill, cut, breakBytes, afterBreaks, joined, written, linesOf, breaksOf, kind, sameBreak, billOf}
+use Rattle.sieve.specs.Lines.{Next, gluedAfter, Bill, cut, breakBytes, afterBreaks, joined, written, linesOf, breaksOf, kind, sameBreak, billOf}
 use Rattle.sieve.specs.Rules.{Layout}
 use Rattle.sieve.specs.Verdict.{accepted, findings, first, verdict}
 use Rattle.sieve.specs.Lawful.{Lawful}
 use Rattle.sieve.specs.Keeps.{Keeps}
 use Rattle.sieve.specs.Demand.{Is, AcceptsExactly}
 use Rattle.sieve.proofs.Likeness.{like, like-itself}
-use Rattle.sieve.proofs.Cutting.{tail, glued-cut, nexts, cut-joined}
+use Rattle.sieve.proofs.Cutting.{glued-cut, nexts, cut-joined}
 use Rattle.sieve.proofs.Walking.{no-bad-place, texts, text-clean}
 use Rattle.sieve.proofs.Findings.{found-none, settled-accepts, verdict-is, Clear, clear, clear-first, all-unbroken, none-broken, none-such, such-none}
 
 -- where every break is like k, the lines with k between them are the bytes that were cut
-alike : (k : Break) (ns : List Next) → ((j : Break) → List·Memᴰ j (map (λ n. n .break) ns) → j ≡ k) → afterBreaks k (map (λ n. n .line) ns) ≡ tail ns
+alike : (k : Break) (ns : List Next) → ((j : Break) → List·Memᴰ j (map (λ n. n .break) ns) → j ≡ k) → afterBreaks k (map (λ n. n .line) ns) ≡ gluedAfter ns
 alike k [] h = refl
 alike k (n ∷ ns) h = rw (h (n .break) (List·Memᴰ·head refl), alike k ns (λ j m. h j (List·Memᴰ·tail m)))
 
@@ -57,14 +57,14 @@ module _ (L : Layout) (laws : (ls : List Bytes) → Lawful (L .width ls)) where
       let j = kind (breaksOf c) in
       let (nothing, count, break) = settled-accepts (billOf p) (first (findings L p)) (sym (verdict-is L p) ∙ h) in
       let all = clear L p nothing in
-      let (least, most) = within-both _ _ _ (not-false _ (found-none _ _ (all .counted))) in
+      let (least, most) = within-both (L .fewest-lines) (L .most-lines) (length ls) (not-false _ (found-none _ _ (all .counted))) in
       let unmixed = such-none (λ k. not (sameBreak j k)) 1 (breaksOf c) (map-eq-none-iff _ _ .0 (all .unmixed)) in
       let same : joined j ls ≡ p = ap (λ (t : Bytes). c .first ++ t) (alike j (c .rest) (λ k m. like j k (unmixed k m))) ∙ glued-cut p in (
         billOf p,
         record {
           keeps = record {
-            enough = least;
-            not-too-many = most;
+            enough = omega arith;
+            not-too-many = omega arith;
             text = texts (L .width ls) (laws ls) p (map-eq-none-iff _ _ .0 (all .good));
             fits = rw same (ltb-false _ _ (found-none _ _ (all .not-too-many)));
             unbroken = all-unbroken (L .rules) ls (all .kept);
@@ -101,9 +101,13 @@ module _ (L : Layout) (laws : (ls : List Bytes) → Lawful (L .width ls)) where
           };
         }
 
+    -- a bill that keeps the rules is read back from what it is written as
+    pub read-back : (b : Bill) → Keeps L b → billOf (written b) ≡ b
+    read-back b h = back (b .break) (b .lines) h .bill-is
+
     pub accepts-exactly : AcceptsExactly L (verdict L)
     accepts-exactly = record {
       sound = sound;
       complete = λ b h. let r = back (b .break) (b .lines) h in verdict-is L (written b) ∙ rw (r .bill-is, clear-first L (written b) (r .nothing-found));
-      unique = λ b c h g e. sym (back _ _ h .bill-is) ∙ ap billOf e ∙ back _ _ g .bill-is;
+      unique = λ b c h g e. sym (read-back b h) ∙ ap billOf e ∙ read-back c g;
     }

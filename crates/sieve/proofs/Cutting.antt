@@ -3,22 +3,13 @@ use Prim.Native.Nat.{ℕ}
 use mathlib.Core.List.{List, [], _∷_, _++_, map, append-nil, List·Memᴰ, List·Memᴰ·head, List·Memᴰ·tail}
 use mathlib.Core.Logic.{_≢_}
 use mathlib.Core.Path.{_≡_, refl, _∙_, ap}
-use lib.ListN.{length}
 use borrow.Author.Tests.{ne-eqb}
 use Rattle.sieve.specs.declared.Break.the-variants.{Lf, CrLf}
-use Rattle.sieve.specs.Lawful.{Plain, one-more}
+use Rattle.sieve.specs.Lawful.{Clean, one-more}
 use Rattle.sieve.specs.declared.Break.{Break}
-use Rattle.sieve.specs.Lines.{Next, Cut, breakBytes, cut, afterBreaks, joined}
+use Rattle.sieve.specs.Lines.{Next, Cut, breakBytes, cut, glued, afterBreaks, joined}
 use Rattle.sieve.specs.Bytes.{Bytes}
 use Rattle.sieve.proofs.Heads.{Head, lf, crlf, other, head}
-
-abbrev pub tail : List Next → Bytes
-tail [] = []
-tail (n ∷ ns) = breakBytes (n .break) ++ (n .line ++ tail ns)
-
--- a cut put together again
-abbrev pub glued : Cut → Bytes
-glued c = c .first ++ tail (c .rest)
 
 pub glued-cut : (p : Bytes) → glued (cut p) ≡ p
 unfolding cut
@@ -39,10 +30,6 @@ pub cut-break : (k : Break) (s : Bytes) → cut (breakBytes k ++ s) ≡ record {
 unfolding cut
 cut-break Lf s = refl
 cut-break CrLf s = refl
-
--- a line with no LF and no CR
-abbrev pub Clean : Bytes → Type 0
-Clean l = Plain (length l) l
 
 pub cut-clean : (l r : Bytes) → Clean l → cut (l ++ r) ≡ record { first = l ++ cut r .first; rest = cut r .rest }
 cut-clean [] r p = refl

@@ -5,19 +5,18 @@ use native.Mathlib.Omega.{arith}
 use mathlib.Core.Bool.{Bool, true, false, false≢true, not, _&&_, and-false}
 use mathlib.Core.List.{List, [], _∷_, _++_, map, List·Memᴰ}
 use mathlib.Core.Logic.{_≢_, _⊎_, inl, inr, ⊎-elim}
-use mathlib.Core.Option.{Option, some, none, Option·map, Option·none-ne-some, map-eq-some-iff}
+use mathlib.Core.Option.{some, none, Option·none-ne-some, Option·some-injective, map-eq-some-iff}
 use mathlib.Core.Path.{_≡_, refl, sym, _∙_, ap, subst, subst₂}
-use lib.Dec.{eqb, leb, ltb}
+use lib.Dec.{leb}
 use lib.ListN.{length, getD, take, getElem?}
 use lib.Seq.{take-at}
-use borrow.Author.Tests.{eqb-true, eq-eqb, ltb-true, lt-ltb, leb-false, lt-leb, not-true}
+use borrow.Author.Tests.{eqb-true, eq-eqb, ltb-true, lt-ltb, leb-false, lt-leb}
 use Rattle.sieve.specs.declared.Break.{Break}
-use Rattle.sieve.specs.declared.Break.the-variants.{Lf, CrLf}
 use Rattle.sieve.specs.Bytes.{Bytes, within, firstSuch}
 use Rattle.sieve.specs.Lines.{cut, linesOf, breaksOf, kind, sameBreak, billOf}
 use Rattle.sieve.specs.Characters.{passes, walk, badPlace, lineFeeds}
 use Rattle.sieve.specs.Rules.{Rule, Layout}
-use Rattle.sieve.specs.Verdict.{Refusal, under, underAt, Verdict, refused, badCharacter, mixedBreaks, lineCount, aboutLines, findings, first, verdict}
+use Rattle.sieve.specs.Verdict.{Refusal, under, underAt, refused, badCharacter, mixedBreaks, lineCount, aboutLines, findings, verdict}
 use Rattle.sieve.specs.Breaks.{Passed, Breaks, no-bytes, too-many-bytes, bad-character, mixed-breaks, too-few-lines, too-many-lines, a-line-rule}
 use Rattle.sieve.specs.Demand.{Earliest, RefusesEarliest}
 use Rattle.sieve.proofs.Likeness.{like, like-itself, unlike, unlike-found}
@@ -120,6 +119,10 @@ module _ (L : Layout) (p : Bytes) where
   broken-found (too-few-lines h) = rw (lt-leb (L .fewest-lines) _ h)
   broken-found (too-many-lines h) = rw (lt-leb (length ls) (L .most-lines) h, and-false)
   broken-found (a-line-rule j q g t) = rw (five-more j) (rule-broken ls (L .rules) j q g t)
+
+  -- a rule says one thing of a payload that breaks it
+  pub breaks-one : {i : ℕ} {q r : Refusal} → Breaks L p i q → Breaks L p i r → q ≡ r
+  breaks-one a b = Option·some-injective _ _ (sym (broken-found a) ∙ broken-found b)
 
   -- the verdict's refusal is the first that is found
 

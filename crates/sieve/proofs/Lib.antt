@@ -6,3 +6,6 @@ pub mod Walking
 pub mod Findings
 pub mod Accepts
 pub mod Earliest
+pub mod Placing
+pub mod DemandThree
+pub mod PaperLosesNothing

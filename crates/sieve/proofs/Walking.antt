@@ -10,12 +10,12 @@ use lib.ListN.{length, length-append}
 use Rattle.sieve.specs.declared.Break.{Break}
 use Rattle.sieve.specs.declared.Break.the-variants.{Lf, CrLf}
 use Rattle.sieve.specs.Bytes.{Bytes}
-use Rattle.sieve.specs.Lines.{Next, Cut, cut, breakBytes, afterBreaks, joined, linesOf}
+use Rattle.sieve.specs.Lines.{Next, Cut, cut, gluedAfter, breakBytes, afterBreaks, joined, linesOf}
 use Rattle.sieve.specs.Characters.{Width, Text, none-left, character, breakWidth, passes, walk, badPlace}
-use Rattle.sieve.specs.Lawful.{Plain, no-more, one-more, Lawful}
+use Rattle.sieve.specs.Lawful.{Plain, Clean, no-more, one-more, Lawful}
 use Rattle.sieve.specs.Breaks.{Passed, none-passed, one-passed}
 use Rattle.sieve.proofs.Heads.{Head, lf, crlf, other, head}
-use Rattle.sieve.proofs.Cutting.{tail, glued-cut, cut-other, Clean, Each}
+use Rattle.sieve.proofs.Cutting.{glued-cut, cut-other, Each}
 use Rattle.sieve.proofs.Widths.{Stop, at-end, at-break, ends, passes-break, passes-character, passes-other}
 
 -- passing a run
@@ -96,9 +96,9 @@ module _ (w : Width) (L : Lawful w) where
   width-first : (p : Bytes) → w (cut p .first) ≡ w p
   width-first p = sym (go (cut p .first) (cut p .rest)) ∙ ap w (glued-cut p)
     where
-      go : (l : Bytes) (ns : List Next) → w (l ++ tail ns) ≡ w l
+      go : (l : Bytes) (ns : List Next) → w (l ++ gluedAfter ns) ≡ w l
       go l [] = ends w L l at-end
-      go l (n ∷ ns) = ends w L l (at-break (n .break) (n .line ++ tail ns))
+      go l (n ∷ ns) = ends w L l (at-break (n .break) (n .line ++ gluedAfter ns))
 
   -- what is known of the bytes after the first
   Known : Bytes → Type 0

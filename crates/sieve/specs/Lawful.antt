@@ -12,6 +12,10 @@ pub data Plain : ℕ → Bytes → Type 0 where
   no-more : {s : Bytes} → Plain zero s
   one-more : {n x : ℕ} {s : Bytes} → x ≢ 10 → x ≢ 13 → Plain n s → Plain (suc n) (x ∷ s)
 
+-- a line with no LF and no CR
+abbrev pub Clean : Bytes → Type 0
+Clean l = Plain (length l) l
+
 pub record Lawful (w : Width) : Type 0 where
   -- an allowed character's bytes are there, and none is LF or CR
   pub plain : (s : Bytes) → Plain (w s) s

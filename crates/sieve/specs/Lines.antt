@@ -41,6 +41,14 @@ pub record Cut : Type 0 where
   pub first : Bytes
   pub rest : List Next
 
+-- a cut put together again: each line after its own break
+abbrev pub gluedAfter : List Next → Bytes
+gluedAfter [] = []
+gluedAfter (n ∷ ns) = breakBytes (n .break) ++ (n .line ++ gluedAfter ns)
+
+abbrev pub glued : Cut → Bytes
+glued c = c .first ++ gluedAfter (c .rest)
+
 abbrev pub beginsLf : Bytes → Bool
 beginsLf s = eqb (getD s 0 0) 10
 

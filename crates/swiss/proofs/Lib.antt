@@ -1,0 +1,3 @@
+pub mod Latin
+pub mod DemandThree
+pub mod LazyVerdicts
