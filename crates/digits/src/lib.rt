@@ -13,7 +13,8 @@ fn is_digit(x: u8) -> bool
     (48 <= x) & (x <= 57)
 }
 
-// What a character stands for: a digit for itself, a letter for 10 to 35 (a small letter as its capital), any other byte for 0.
+// What a character stands for: a digit for itself, a letter for 10 to 35 (a small letter as its capital), any other
+// byte for 0.
 fn value(x: u8) -> u64
     ensures { λ r. ⌜ r ≡ value x ⌝ }
 {
@@ -29,7 +30,8 @@ fn value(x: u8) -> u64
     0
 }
 
-// The decimal number n with one character more. A number of eight characters has room for a ninth.
+// The decimal number n with one character more: one decimal place for a digit, two for any other. A number of eight
+// characters has room for a ninth.
 fn extended(n: u64, x: u8) -> u64
     requires { ⌜ n < 100 ^ 8 ⌝ }
     ensures { λ r. ⌜ r ≡ onto n x ⌝ }
@@ -49,7 +51,8 @@ fn onto(n: u64, x: u8) -> u64
     extended(n, x) % 97
 }
 
-// The remainder by 97 of the number n with a text more. It keeps only the remainder of what it has passed, so no length is too long.
+// The remainder by 97 of the number n with a text more. Only the remainder of what stands before counts, so it keeps no
+// more than that, and no text is too long.
 pub fn remainder_after(n: u64, s: &[u8]) -> u64
     ensures { λ r. ⌜ r ≡ number n (now (s .entry)) % 97 ⌝ }
 {
@@ -63,6 +66,7 @@ pub fn remainder_after(n: u64, s: &[u8]) -> u64
 }
 
 // MOD 97-10: the remainder by 97 of the number that a text stands for, its first four characters moved to its end.
+// Nothing is moved: the four are read after the others. Fewer than four have no others to go behind.
 pub fn remainder97(s: &[u8]) -> u64
     ensures { λ r. ⌜ r ≡ remainder97 (now (s .entry)) ⌝ }
 {
@@ -80,7 +84,7 @@ pub fn checks97(s: &[u8]) -> bool
     remainder97(s) == 1
 }
 
-// The decimal number that a short text stands for.
+// The decimal number that a short text stands for. Nine characters make a number below 100 ^ 9, which a u64 holds.
 pub fn number(s: &[u8]) -> u64
     requires { ⌜ length (now s) ≤ 9 ⌝ }
     ensures { λ r. ⌜ r ≡ number 0 (now (s .entry)) ⌝ }
@@ -111,7 +115,7 @@ fn next_carry(c: u8, x: u8) -> u8
     NEXT_CARRY[((c + digit_value(x)) % 10) as usize]
 }
 
-// Modulo 10, recursive: the check digit, as a byte, that a run of digits asks for.
+// Modulo 10, recursive: the check digit, as a byte, that a run of digits asks for. Under carry 0 it is 0 and not 10.
 pub fn check_digit(s: &[u8]) -> u8
     ensures { λ r. ⌜ r ≡ checkDigit (now (s .entry)) ⌝ }
 {
@@ -124,7 +128,7 @@ pub fn check_digit(s: &[u8]) -> u8
     48 + (10 - c) % 10
 }
 
-// Whether the 27th digit of a QR reference is the one that the first 26 ask for. A text with no 27th has no check digit.
+// Whether the 27th digit is the one that the first 26 ask for. A shorter text has none, and more after it is not read.
 pub fn checks10(s: &[u8]) -> bool
     ensures { λ r. ⌜ r ≡ checks10 (now (s .entry)) ⌝ }
 {
