@@ -1,0 +1,4 @@
+pub mod Folds
+pub mod Values
+pub mod Remainders
+pub mod Carries

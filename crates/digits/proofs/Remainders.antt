@@ -1,0 +1,46 @@
+-- The number that a text stands for, and its remainder by 97, for a text of any length. Assumes nothing.
+use Prim.Native.Nat.{ℕ, _+_, _*_, _/_, _%_}
+use native.Mathlib.Nat.{mul-add-mod-self-left}
+use native.Mathlib.Omega.{arith}
+use mathlib.Core.Bool.{cond}
+use mathlib.Core.List.{[], _∷_, _++_}
+use mathlib.Core.Path.{_≡_, refl, sym, ap, _∙_}
+use Rattle.sieve.specs.Bytes.{Bytes}
+use Rattle.swiss.specs.Letters.{digit}
+use Rattle.swiss.specs.Mod97.{value, onto, number}
+use Rattle.digits.specs.Weight.{weight}
+use Rattle.digits.proofs.Folds.{Fold, after}
+
+pub numbers : Fold number onto
+unfolding number
+numbers = record { nothing = λ n. refl; one-more = λ n x s. refl }
+
+-- the remainder of k n + v, by the remainder of n
+rest : (k n v : ℕ) → (k * n + v) % 97 ≡ (k * (n % 97) + v) % 97
+rest k n v =
+    let whole : n ≡ 97 * (n / 97) + n % 97 = omega arith in
+    let split : k * n + v ≡ 97 * (k * (n / 97)) + (k * (n % 97) + v) = omega (arith, ap (λ (m : ℕ). k * m) whole) in
+    rw split (mul-add-mod-self-left 97 (k * (n / 97)) (k * (n % 97) + v))
+
+-- only the remainder of what stands before counts
+pub carried : (n : ℕ) (s : Bytes) → number n s % 97 ≡ number (n % 97) s % 97
+unfolding number
+carried n [] = omega arith
+carried n (x ∷ s) = carried (onto n x) s ∙ ap (λ (k : ℕ). number k s % 97) (rest (cond (digit x) 10 100) n (value x)) ∙ sym (carried (onto (n % 97) x) s)
+
+-- a text after a text
+pub appended : (n : ℕ) (a b : Bytes) → number n (a ++ b) ≡ number (number n a) b
+appended n a b = after numbers n a b
+
+-- what stands before a text counts as many times as the text weighs
+pub summed : (n : ℕ) (s : Bytes) → number n s ≡ n * weight s + number 0 s
+unfolding number weight
+summed n [] = omega arith
+summed n (x ∷ s) = omega (arith, summed (onto n x) s, summed (onto 0 x) s)
+
+-- one character for another of its kind changes the number by as much as they differ, times what follows
+pub one-changed : (n : ℕ) (a b : Bytes) (x y : ℕ) → digit x ≡ digit y
+    → number n (a ++ (x ∷ b)) + value y * weight b ≡ number n (a ++ (y ∷ b)) + value x * weight b
+unfolding number
+one-changed n a b x y e =
+    rw (appended n a (x ∷ b), appended n a (y ∷ b), summed (onto (number n a) x) b, summed (onto (number n a) y) b, e) (omega arith)

@@ -1,0 +1,75 @@
+-- `digits::remainder97` meets its contract: the text from its fifth character on is read, and after it the first four. Assumes nothing.
+use Prim.Native.Nat.{ℕ, _-_, _%_, _≤_, _<_}
+use native.Mathlib.Omega.{arith}
+use mathlib.Core.Path.{_≡_, sym, _∙_}
+use lib.ListN.{length, take, drop, length-drop, drop-of-length-le}
+use lib.Seq.{take-all}
+use borrow.Author.Needs.{needs}
+use Rattle.sieve.specs.Bytes.{Bytes}
+use Rattle.swiss.specs.Mod97.{number, remainder97}
+use Rattle.digits.proofs.Remainders.{carried, appended}
+use Rattle.digits.proofs.remainder97.Statement.{statement}
+use Rattle.digits.proofs.remainder97.Tie as tie
+
+-- fewer than four characters: there is none to move them past
+unmoved : (s : Bytes) → length s < 4 → number 0 s % 97 ≡ remainder97 s
+unfolding remainder97
+unmoved s h =
+    let p : length s ≤ 4 = omega arith in
+    rw (drop-of-length-le s p, take-all 4 s p)
+
+-- two readings, the second after the remainder that the first leaves
+moved : (s : Bytes) (r : ℕ) → r ≡ number 0 (take (length s - 4) (drop 4 s)) % 97 → number r (take 4 s) % 97 ≡ remainder97 s
+unfolding remainder97
+moved s r e =
+    let p : length (drop 4 s) ≤ length s - 4 = simp length-drop (omega arith) in
+    rw (e, take-all (length s - 4) (drop 4 s) p, appended) (sym (carried (number 0 (drop 4 s)) (take 4 s)))
+
+remainder-after-requires : tie.Need-remainder-after-requires
+remainder-after-requires c κs = search needs
+
+returns : tie.Need-returns
+returns c = c .remainder-after .ensures ∙ unmoved (c .before .before .before .args .s .now) (c .before .if1 .taken)
+
+sub-remainder-after : tie.Need-sub-remainder-after
+sub-remainder-after c = search needs
+
+part-remainder-after-start : tie.Need-part-remainder-after-start
+part-remainder-after-start c = search needs
+
+part-remainder-after-end : tie.Need-part-remainder-after-end
+part-remainder-after-end c = search needs
+
+remainder-after-requires-2 : tie.Need-remainder-after-requires-2
+remainder-after-requires-2 c κs = search needs
+
+sub-remainder-after-2 : tie.Need-sub-remainder-after-2
+sub-remainder-after-2 c = search needs
+
+part-remainder-after-start-2 : tie.Need-part-remainder-after-start-2
+part-remainder-after-start-2 c = search needs
+
+part-remainder-after-end-2 : tie.Need-part-remainder-after-end-2
+part-remainder-after-end-2 c = search needs
+
+remainder-after-requires-3 : tie.Need-remainder-after-requires-3
+remainder-after-requires-3 c κs = search needs
+
+returns-2 : tie.Need-returns-2
+returns-2 c = c .remainder-after3 .ensures ∙ moved (c .before .before .before .before .before .before .args .s .now) _ (c .before .before .remainder-after2 .ensures)
+
+pub remainder97-spec : {M : Type 1} → statement M
+remainder97-spec =
+    tie.close
+    (tie.spec
+    remainder-after-requires
+    returns
+    sub-remainder-after
+    part-remainder-after-start
+    part-remainder-after-end
+    remainder-after-requires-2
+    sub-remainder-after-2
+    part-remainder-after-start-2
+    part-remainder-after-end-2
+    remainder-after-requires-3
+    returns-2)

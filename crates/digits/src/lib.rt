@@ -1,0 +1,139 @@
+// Check digits of texts of any length: MOD 97-10, and modulo 10, recursive.
+ghost use mathlib.Core.Path.{_≡_};
+ghost use Prim.Native.Nat.{_+_, _-_, _%_, _^_, _≤_, _<_};
+ghost use lib.ListN.{length, getD};
+ghost use Rattle.swiss.specs.Letters.{digit};
+ghost use Rattle.swiss.specs.Mod97.{value, onto, number, remainder97, checks97};
+ghost use Rattle.swiss.specs.Mod10.{nextCarry, checkDigit, checks10};
+
+// One of 0-9.
+fn is_digit(x: u8) -> bool
+    ensures { λ r. ⌜ r ≡ digit x ⌝ }
+{
+    (48 <= x) & (x <= 57)
+}
+
+// What a character stands for: a digit for itself, a letter for 10 to 35 (a small letter as its capital), any other
+// byte for 0.
+fn value(x: u8) -> u64
+    ensures { λ r. ⌜ r ≡ value x ⌝ }
+{
+    if is_digit(x) {
+        return (x - 48) as u64;
+    }
+    if (65 <= x) & (x <= 90) {
+        return (x - 55) as u64;
+    }
+    if (97 <= x) & (x <= 122) {
+        return (x - 87) as u64;
+    }
+    0
+}
+
+// The decimal number n with one character more: one decimal place for a digit, two for any other. A number of eight
+// characters has room for a ninth.
+fn extended(n: u64, x: u8) -> u64
+    requires { ⌜ n < 100 ^ 8 ⌝ }
+    ensures { λ r. ⌜ r ≡ onto n x ⌝ }
+{
+    if is_digit(x) {
+        10 * n + value(x)
+    } else {
+        100 * n + value(x)
+    }
+}
+
+// The remainder by 97 of the number n with one character more.
+fn onto(n: u64, x: u8) -> u64
+    requires { ⌜ n < 97 ⌝ }
+    ensures { λ r. ⌜ r ≡ onto n x % 97 ⌝ }
+{
+    extended(n, x) % 97
+}
+
+// The remainder by 97 of the number n with a text more. Only the remainder of what stands before counts, so it keeps no
+// more than that, and no text is too long.
+pub fn remainder_after(n: u64, s: &[u8]) -> u64
+    ensures { λ r. ⌜ r ≡ number n (now (s .entry)) % 97 ⌝ }
+{
+    let mut r = n % 97;
+    let mut i = 0;
+    while i < s.len() {
+        r = onto(r, s[i]);
+        i += 1;
+    }
+    r
+}
+
+// MOD 97-10: the remainder by 97 of the number that a text stands for, its first four characters moved to its end.
+// Nothing is moved: the four are read after the others. Fewer than four have no others to go behind.
+pub fn remainder97(s: &[u8]) -> u64
+    ensures { λ r. ⌜ r ≡ remainder97 (now (s .entry)) ⌝ }
+{
+    if s.len() < 4 {
+        return remainder_after(0, s);
+    }
+    let r = remainder_after(0, &s[4..]);
+    remainder_after(r, &s[0..4])
+}
+
+// Whether the two check digits of an IBAN or of a creditor reference are right.
+pub fn checks97(s: &[u8]) -> bool
+    ensures { λ r. ⌜ r ≡ checks97 (now (s .entry)) ⌝ }
+{
+    remainder97(s) == 1
+}
+
+// The decimal number that a short text stands for. Nine characters make a number below 100 ^ 9, which a u64 holds.
+pub fn number(s: &[u8]) -> u64
+    requires { ⌜ length (now s) ≤ 9 ⌝ }
+    ensures { λ r. ⌜ r ≡ number 0 (now (s .entry)) ⌝ }
+{
+    let mut n = 0;
+    let mut i = 0;
+    while i < s.len() {
+        n = extended(n, s[i]);
+        i += 1;
+    }
+    n
+}
+
+const NEXT_CARRY: [u8; 10] = [0, 9, 4, 6, 8, 2, 7, 1, 3, 5];
+
+// What a digit stands for. A byte below the digits counts as 0.
+fn digit_value(x: u8) -> u8
+    ensures { λ r. ⌜ r ≡ x - 48 ⌝ }
+{
+    if x < 48 { 0 } else { x - 48 }
+}
+
+// The carry c after one digit more.
+fn next_carry(c: u8, x: u8) -> u8
+    requires { ⌜ c < 10 ⌝ }
+    ensures { λ r. ⌜ r ≡ getD nextCarry ((c + (x - 48)) % 10) 0 ⌝ }
+{
+    NEXT_CARRY[((c + digit_value(x)) % 10) as usize]
+}
+
+// Modulo 10, recursive: the check digit, as a byte, that a run of digits asks for. Under carry 0 it is 0 and not 10.
+pub fn check_digit(s: &[u8]) -> u8
+    ensures { λ r. ⌜ r ≡ checkDigit (now (s .entry)) ⌝ }
+{
+    let mut c = 0;
+    let mut i = 0;
+    while i < s.len() {
+        c = next_carry(c, s[i]);
+        i += 1;
+    }
+    48 + (10 - c) % 10
+}
+
+// Whether the 27th digit is the one that the first 26 ask for. A shorter text has none, and more after it is not read.
+pub fn checks10(s: &[u8]) -> bool
+    ensures { λ r. ⌜ r ≡ checks10 (now (s .entry)) ⌝ }
+{
+    if s.len() < 27 {
+        return false;
+    }
+    s[26] == check_digit(&s[0..26])
+}
