@@ -1,0 +1,5 @@
+/* The Rattle kit has a C library and no headers for it. The headers in this folder declare as much
+   of it as our C files use. */
+#pragma once
+typedef __SIZE_TYPE__ size_t;
+#define NULL ((void *)0)

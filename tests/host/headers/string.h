@@ -1,0 +1,6 @@
+#pragma once
+#include <stddef.h>
+void *memchr(const void *in, int byte, size_t count);
+int memcmp(const void *one, const void *two, size_t count);
+void *memcpy(void *to, const void *from, size_t count);
+size_t strlen(const char *text);

@@ -1,0 +1,56 @@
+"""C programs for x86-64, made and run with what the Rattle kit has.
+
+The kit has a compiler, a linker, a C library, and on Arm an emulator. It has no headers of the C
+library; those in tests/host/headers declare what our C files use.
+"""
+
+import os
+import platform
+import subprocess
+from pathlib import Path
+
+ROOT = Path(__file__).resolve().parent.parent
+TARGET = 'x86_64-unknown-linux-gnu'
+GUIDE = subprocess.run(['rt', 'doc'], check=True, stdout=subprocess.PIPE, text=True).stdout.strip()
+OWN = Path(GUIDE).parent.parent / 'on' / platform.machine()
+TOOLS = OWN / 'toolchain'
+EMULATOR = TOOLS / 'bin' / 'qemu-x86_64'  # only where the machine is not x86-64
+FLAGS = [
+    f'--target={TARGET}', '-std=c17', '-O2', '-Wall', '-Wextra', '-Wpedantic', '-Werror',
+    '-nostdinc', '-isystem', ROOT / 'tests' / 'host' / 'headers', '-I', ROOT / 'include',
+]
+
+
+def compiled(source: Path, folder: Path) -> Path:
+    """Compile a C file; the object file lies in the folder."""
+    folder.mkdir(parents=True, exist_ok=True)
+    made = folder / f'{source.stem}.o'
+    subprocess.run([TOOLS / 'bin' / 'clang', *FLAGS, '-c', source, '-o', made], check=True)
+    return made
+
+
+def linked(program: Path, *files: Path) -> Path:
+    """Link object files and static libraries, of which the first has `main`."""
+    # The linker says on standard error what it linked, also where all is well.
+    subprocess.run([OWN / 'bin' / 'rattle-link', '--target', TARGET, '--toolchain', TOOLS,
+                    '-o', program, *files], check=True, stderr=subprocess.PIPE)
+    return program
+
+
+def static_library(crate: str) -> Path:
+    """Prove a crate of this repository and make its static library."""
+    subprocess.run(['rt', 'staticlib', crate], check=True, cwd=ROOT, stdout=subprocess.DEVNULL)
+    return ROOT / 'target' / 'staticlib' / f'lib{crate}.a'
+
+
+def command(program: Path, *words: str, emulator_options=()) -> list:
+    """The words that run a program with the kit's C library."""
+    emulator = [EMULATOR, *emulator_options] if EMULATOR.exists() else []
+    libraries = TOOLS / 'lib'
+    return [*emulator, libraries / 'ld-linux-x86-64.so.2', '--library-path', libraries,
+            program, *words]
+
+
+def environment() -> dict:
+    """The environment without what would set options of the emulator."""
+    return {name: value for name, value in os.environ.items() if not name.startswith('QEMU_')}
