@@ -1,0 +1,63 @@
+/* A program that calls the library as a host in C does, and writes what it answers.
+
+   Standard input is a row of records: a length of four bytes, the lowest first as x86-64 has it,
+   and a payload of that length. For each record the host writes one line: what qrbill_read answers,
+   then what qrbill_line answers for lines 0 to 35. It ends with status 1 where a call changed the
+   payload.
+
+   A payload is laid against a wall, memory that nobody may read: a call that reads past the end of
+   the payload ends the host. */
+
+#include <stdbool.h>
+#include <stdint.h>
+#include <stdio.h>
+#include <string.h>
+#include <sys/mman.h>
+
+#include "qrbill.h"
+
+enum { ROOM = 1 << 20, WALL = 1 << 16, LAST_LINE = 35 };
+
+static uint8_t copy[ROOM];
+
+/* The end of a room of ROOM bytes that a wall follows; null if there is no such room. */
+static uint8_t *end_of_room(void)
+{
+    uint8_t *room = mmap(NULL, ROOM + WALL, PROT_READ | PROT_WRITE, MAP_PRIVATE | MAP_ANONYMOUS,
+                         -1, 0);
+    if (room == MAP_FAILED || mprotect(room + ROOM, WALL, PROT_NONE) != 0)
+        return NULL;
+    return room + ROOM;
+}
+
+/* Writes the line of numbers for one payload; answers false where a call changed the payload. */
+static bool answer(const uint8_t *payload, size_t length)
+{
+    printf("%u", qrbill_read(payload, length));
+    if (memcmp(payload, copy, length) != 0)
+        return false;
+    for (uint32_t line = 0; line <= LAST_LINE; line++) {
+        printf(" %u", qrbill_line(payload, length, line));
+        if (memcmp(payload, copy, length) != 0)
+            return false;
+    }
+    printf("\n");
+    fflush(stdout); /* so that the last line is there if the next payload ends the host */
+    return true;
+}
+
+int main(void)
+{
+    uint8_t *end = end_of_room();
+    uint32_t length;
+    if (end == NULL)
+        return 2;
+    while (fread(&length, sizeof length, 1, stdin) == 1) {
+        if (length > ROOM || fread(copy, 1, length, stdin) != length)
+            return 2;
+        memcpy(end - length, copy, length);
+        if (!answer(end - length, length))
+            return 1;
+    }
+    return 0;
+}
