@@ -21,25 +21,33 @@ FLAGS = [
 ]
 
 
+def quietly(words, folder=None):
+    """Run a command; print what it says only if it fails."""
+    ran = subprocess.run(words, cwd=folder, stdout=subprocess.PIPE, stderr=subprocess.STDOUT,
+                         text=True, check=False)
+    if ran.returncode != 0:
+        print(ran.stdout, flush=True)
+    ran.check_returncode()
+
+
 def compiled(source: Path, folder: Path) -> Path:
     """Compile a C file; the object file lies in the folder."""
     folder.mkdir(parents=True, exist_ok=True)
     made = folder / f'{source.stem}.o'
-    subprocess.run([TOOLS / 'bin' / 'clang', *FLAGS, '-c', source, '-o', made], check=True)
+    quietly([TOOLS / 'bin' / 'clang', *FLAGS, '-c', source, '-o', made])
     return made
 
 
 def linked(program: Path, *files: Path) -> Path:
     """Link object files and static libraries, of which the first has `main`."""
-    # The linker says on standard error what it linked, also where all is well.
-    subprocess.run([OWN / 'bin' / 'rattle-link', '--target', TARGET, '--toolchain', TOOLS,
-                    '-o', program, *files], check=True, stderr=subprocess.PIPE)
+    quietly([OWN / 'bin' / 'rattle-link', '--target', TARGET, '--toolchain', TOOLS, '-o', program,
+             *files])
     return program
 
 
 def static_library(crate: str) -> Path:
     """Prove a crate of this repository and make its static library."""
-    subprocess.run(['rt', 'staticlib', crate], check=True, cwd=ROOT, stdout=subprocess.DEVNULL)
+    quietly(['rt', 'staticlib', crate], ROOT)
     return ROOT / 'target' / 'staticlib' / f'lib{crate}.a'
 
 
