@@ -1,21 +1,15 @@
-/* Calls sieve_read and sieve_write with lent lists and destinations, and writes what comes of it.
+/* Calls sieve_read and sieve_write for each record of standard input, and writes what comes of it.
 
-   Standard input is a row of records: a struct record, then the bytes of its text, then the numbers
-   of its list. For each record the host reads the text as a payload, into a list of as many
-   numbers, and lets the writer join the lines that the given list finds in the text. It writes a
-   struct result. Whatever is lent is full of marks before the call. */
+   sieve_read takes the text as a payload and fills a list; sieve_write joins the lines that the
+   record's list finds in the text. What is lent to them is full of marks before the call. For each
+   record the host writes a struct result. */
 
-#include <stdint.h>
-#include <stdio.h>
 #include <string.h>
 
+#include "record.h"
 #include "sieve.h"
 
-enum { MOST_TEXT = 1 << 20, MOST_NUMBERS = 100, MOST_ROOM = 1000, MARK = 0xAA };
-
-struct record {
-    uint32_t length, numbers, count, crlf, room;
-};
+enum { MARK = 0xAA };
 
 struct result {
     uint32_t read;
@@ -24,25 +18,17 @@ struct result {
     uint8_t destination[MOST_ROOM];
 };
 
-static uint8_t text[MOST_TEXT];
-
 int main(void)
 {
-    struct record given;
-    uint16_t places[MOST_NUMBERS];
+    static struct record given;
     struct result result;
 
-    while (fread(&given, sizeof given, 1, stdin) == 1) {
-        if (given.length > MOST_TEXT || given.numbers > MOST_NUMBERS || given.room > MOST_ROOM)
-            return 1;
-        if (fread(text, 1, given.length, stdin) != given.length ||
-            fread(places, sizeof places[0], given.numbers, stdin) != given.numbers)
-            return 1;
+    while (next_record(&given)) {
         memset(&result, MARK, sizeof result);
-        result.read = sieve_read(text, given.length, result.places, given.numbers);
-        result.written =
-            sieve_write(text, given.length, places, given.numbers, (uint8_t)given.count,
-                        given.crlf != 0, result.destination, given.room);
+        result.read = sieve_read(given.text, given.length, result.places, given.numbers);
+        result.written = sieve_write(given.text, given.length, given.places, given.numbers,
+                                     (uint8_t)given.count, given.crlf != 0, result.destination,
+                                     given.room);
         fwrite(&result, sizeof result, 1, stdout);
     }
     return 0;
