@@ -1,0 +1,59 @@
+"""How many instructions a program runs, counted one by one: the same number in each run.
+
+On Arm the kit's emulator translates one instruction at a time and notes each that it runs. On
+x86-64 the program is stepped from instruction to instruction (ptrace). In both ways an instruction
+that repeats itself, as `rep movsb`, counts once for each time.
+"""
+
+import ctypes
+import os
+import subprocess
+import tempfile
+from pathlib import Path
+
+import kit
+
+PTRACE_TRACEME, PTRACE_SINGLESTEP = 0, 9
+ADDR_NO_RANDOMIZE = 0x40000
+
+
+def instructions(program, words, data):
+    """How many instructions a program runs on these words and this standard input."""
+    with tempfile.TemporaryDirectory() as folder:
+        given = Path(folder) / 'input'
+        given.write_bytes(data)
+        with given.open('rb') as file:
+            if kit.EMULATOR.exists():
+                return noted(program, words, file, Path(folder) / 'log')
+            return stepped(kit.command(program, *words), file)
+
+
+def noted(program, words, file, log):
+    """By the emulator's log, which has a line `Trace ..` for each instruction."""
+    options = ['-one-insn-per-tb', '-d', 'exec,nochain', '-D', log]
+    subprocess.run(kit.command(program, *words, emulator_options=options), stdin=file,
+                   stdout=subprocess.DEVNULL, check=True, env=kit.environment())
+    return log.read_bytes().count(b'Trace ')
+
+
+def stepped(command, file):
+    """By ptrace: the program stops after each instruction, and is waited for each time."""
+    c_library = ctypes.CDLL(None, use_errno=True)
+    c_library.ptrace.argtypes = 4 * [ctypes.c_long]
+    child = os.fork()
+    if child == 0:
+        os.dup2(file.fileno(), 0)
+        os.dup2(os.open(os.devnull, os.O_WRONLY), 1)
+        c_library.personality(ADDR_NO_RANDOMIZE)  # or the start of a program differs a little
+        c_library.ptrace(PTRACE_TRACEME, 0, 0, 0)
+        os.execv(command[0], command)
+    count = 0
+    _, status = os.waitpid(child, 0)  # it stops as it starts
+    while os.WIFSTOPPED(status):
+        if c_library.ptrace(PTRACE_SINGLESTEP, child, 0, 0) != 0:
+            raise OSError(ctypes.get_errno(), 'ptrace')
+        _, status = os.waitpid(child, 0)
+        count += 1
+    if status != 0:
+        raise RuntimeError(f'the program ended with status {status}')
+    return count
