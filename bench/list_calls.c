@@ -1,5 +1,5 @@
-/* Makes the call of the reader with a list, or of the writer, again and again, for bench/run to count
-   instructions:
+/* Makes the call of the reader with a list, or of the writer, again and again, for bench/run to
+   count instructions:
 
        list_calls list|write TIMES < record
 
