@@ -42,11 +42,14 @@ def stepped(command, file):
     c_library.ptrace.argtypes = 4 * [ctypes.c_long]
     child = os.fork()
     if child == 0:
-        os.dup2(file.fileno(), 0)
-        os.dup2(os.open(os.devnull, os.O_WRONLY), 1)
-        c_library.personality(ADDR_NO_RANDOMIZE)  # or the start of a program differs a little
-        c_library.ptrace(PTRACE_TRACEME, 0, 0, 0)
-        os.execv(command[0], command)
+        try:
+            os.dup2(file.fileno(), 0)
+            os.dup2(os.open(os.devnull, os.O_WRONLY), 1)
+            c_library.personality(ADDR_NO_RANDOMIZE)  # or the start of a program differs a little
+            c_library.ptrace(PTRACE_TRACEME, 0, 0, 0)
+            os.execv(command[0], command)
+        finally:
+            os._exit(1)
     count = 0
     _, status = os.waitpid(child, 0)  # it stops as it starts
     while os.WIFSTOPPED(status):

@@ -1,4 +1,4 @@
-"""Damaged bills, and other payloads that should be refused: the same in each run.
+"""Damaged bills and other payloads to try: the same in each run.
 
 A damaged bill is an accepted payload of the case files with one to three damages. They are drawn
 by a small generator of our own, so that they are the same in every Python: `random` promises that

@@ -31,8 +31,8 @@ def host_lines(program, payloads):
     return lines + (len(payloads) - len(lines)) * [f'the end, with status {ran.returncode}']
 
 
-def expected_line(payload, answer):
-    """What the host should write for a payload that the reference answers so."""
+def expected_line(answer):
+    """What the host should write where this is the reference's answer."""
     if isinstance(answer, Refused):
         numbers = [1000 * answer.number + answer.line] + (LAST_LINE + 1) * [0]
     else:
@@ -49,7 +49,7 @@ def compare(program, payloads):
     for payload, got in zip(payloads, host_lines(program, payloads)):
         answer = read(payload)
         seen[answer.number if isinstance(answer, Refused) else 0] += 1
-        expected = expected_line(payload, answer)
+        expected = expected_line(answer)
         if got != expected:
             failures.append(f'{payload!r:.1500}: expected {expected}, got {got}')
     return seen, failures
