@@ -9,3 +9,4 @@ pub mod Earliest
 pub mod Placing
 pub mod DemandThree
 pub mod PaperLosesNothing
+pub mod ReaderPromises
