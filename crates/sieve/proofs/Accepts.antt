@@ -15,11 +15,11 @@ use Rattle.sieve.specs.Bytes.{Bytes, within}
 use Rattle.sieve.specs.Lines.{Next, gluedAfter, Bill, cut, breakBytes, afterBreaks, joined, written, linesOf, breaksOf, kind, sameBreak, billOf}
 use Rattle.sieve.specs.Rules.{Layout}
 use Rattle.sieve.specs.Verdict.{accepted, findings, first, verdict}
-use Rattle.sieve.specs.Lawful.{Lawful}
+use Rattle.sieve.specs.Lawful.{Clean, Lawful}
 use Rattle.sieve.specs.Keeps.{Keeps}
 use Rattle.sieve.specs.Demand.{Is, AcceptsExactly}
 use Rattle.sieve.proofs.Likeness.{like, like-itself}
-use Rattle.sieve.proofs.Cutting.{glued-cut, nexts, cut-joined}
+use Rattle.sieve.proofs.Cutting.{Each, glued-cut, nexts, cut-joined}
 use Rattle.sieve.proofs.Walking.{no-bad-place, texts, text-clean}
 use Rattle.sieve.proofs.Findings.{found-none, settled-accepts, verdict-is, Clear, clear, clear-first, all-unbroken, none-broken, none-such, such-none}
 
@@ -40,12 +40,22 @@ breaks-back k (l ∷ ls) j m = go (List·Memᴰ·cases-cons m) (breaks-back k ls
     go (inl e) ih = e
     go (inr m) ih = ih m
 
+-- lines without CR and LF are read back from what they are written as
+pub clean-read-back : (b : Bill) → 2 ≤ length (b .lines) → Each Clean (b .lines) → billOf (written b) ≡ b
+unfolding written billOf
+clean-read-back b = go (b .lines)
+  where
+    go : (ls : List Bytes) → 2 ≤ length ls → Each Clean ls → billOf (joined (b .break) ls) ≡ record { lines = ls; break = b .break }
+    go [] two h = absurd (omega arith)
+    go (l ∷ []) two h = absurd (omega arith)
+    go (l ∷ m ∷ ls) two h = rw (cut-joined (b .break) l (m ∷ ls) h, lines-back (b .break) ls)
+
 not-empty : (k : Break) (l s : Bytes) → eqb (length (l ++ (breakBytes k ++ s))) 0 ≡ false
 not-empty k (x ∷ l) s = rw eqb·suc-zero
 not-empty Lf [] s = rw eqb·suc-zero
 not-empty CrLf [] s = rw eqb·suc-zero
 
-within-both : (lo hi n : ℕ) → within lo hi n ≡ true → (lo ≤ n) × (n ≤ hi)
+pub within-both : (lo hi n : ℕ) → within lo hi n ≡ true → (lo ≤ n) × (n ≤ hi)
 within-both lo hi n h = let (a, b) = and-eq-true-iff (leb lo n) _ .0 h in (leb-true _ _ a, leb-true _ _ b)
 
 module _ (L : Layout) (laws : (ls : List Bytes) → Lawful (L .width ls)) where
@@ -75,14 +85,10 @@ module _ (L : Layout) (laws : (ls : List Bytes) → Lawful (L .width ls)) where
         },
       )
 
-  -- what the bytes of a bill that keeps the rules come to
-  record Back (b : Bill) : Type 0 where
-    bill-is : billOf (written b) ≡ b
-    nothing-found : Clear L (written b)
-
   module _ (fewest : 2 ≤ L .fewest-lines) where
-    back : (k : Break) (ls : List Bytes) → Keeps L (record { lines = ls; break = k }) → Back (record { lines = ls; break = k })
-    unfolding written billOf
+    -- nothing is found in the bytes of a bill that keeps the rules
+    back : (k : Break) (ls : List Bytes) → Keeps L (record { lines = ls; break = k }) → Clear L (written (record { lines = ls; break = k }))
+    unfolding written
     back k [] h = let a = h .enough in absurd (omega arith)
     back k (l ∷ []) h = let a = h .enough in absurd (omega arith)
     back k (l ∷ m ∷ ls) h =
@@ -90,24 +96,21 @@ module _ (L : Layout) (laws : (ls : List Bytes) → Lawful (L .width ls)) where
         let e = cut-joined k l (m ∷ ls) (λ t i. text-clean (L .width all) (laws all) (h .text t i)) in
         let f = lines-back k ls in
         record {
-          bill-is = rw (e, f);
-          nothing-found = record {
-            some-bytes = rw (not-empty k l (m ++ afterBreaks k ls));
-            not-too-many = rw (le-ltb _ _ (h .fits));
-            good = rw (e, f, no-bad-place _ (laws all) k all (h .text));
-            unmixed = rw (e, none-such (λ j. not (sameBreak k j)) 1 (k ∷ map (λ n. n .break) (nexts k ls)) (λ j i. rw (breaks-back k (m ∷ ls) j i) (like-itself k)));
-            counted = rw (e, f, le-leb _ _ (h .enough), le-leb _ _ (h .not-too-many));
-            kept = rw (e, f) (none-broken (L .rules) all (h .unbroken));
-          };
+          some-bytes = rw (not-empty k l (m ++ afterBreaks k ls));
+          not-too-many = rw (le-ltb _ _ (h .fits));
+          good = rw (e, f, no-bad-place _ (laws all) k all (h .text));
+          unmixed = rw (e, none-such (λ j. not (sameBreak k j)) 1 (k ∷ map (λ n. n .break) (nexts k ls)) (λ j i. rw (breaks-back k (m ∷ ls) j i) (like-itself k)));
+          counted = rw (e, f, le-leb _ _ (h .enough), le-leb _ _ (h .not-too-many));
+          kept = rw (e, f) (none-broken (L .rules) all (h .unbroken));
         }
 
     -- a bill that keeps the rules is read back from what it is written as
     pub read-back : (b : Bill) → Keeps L b → billOf (written b) ≡ b
-    read-back b h = back (b .break) (b .lines) h .bill-is
+    read-back b h = clean-read-back b (omega (arith, h .enough)) (λ l m. text-clean (L .width (b .lines)) (laws (b .lines)) (h .text l m))
 
     pub accepts-exactly : AcceptsExactly L (verdict L)
     accepts-exactly = record {
       sound = sound;
-      complete = λ b h. let r = back (b .break) (b .lines) h in verdict-is L (written b) ∙ rw (r .bill-is, clear-first L (written b) (r .nothing-found));
+      complete = λ b h. verdict-is L (written b) ∙ rw (read-back b h, clear-first L (written b) (back (b .break) (b .lines) h));
       unique = λ b c h g e. sym (read-back b h) ∙ ap billOf e ∙ read-back c g;
     }

@@ -41,6 +41,10 @@ none-further [] (suc n) h = refl
 none-further (none ∷ os) (suc n) h = none-further os n h
 none-further (some r ∷ os) (suc n) h = absurd (Option·none-ne-some r (sym h))
 
+pub first-nil : first [] ≡ none
+unfolding first
+first-nil = refl
+
 pub none-first : (o : Option Refusal) (os : List (Option Refusal)) → o ≡ none → first os ≡ none → first (o ∷ os) ≡ none
 unfolding first
 none-first none os e h = h

@@ -10,3 +10,5 @@ pub mod Placing
 pub mod DemandThree
 pub mod PaperLosesNothing
 pub mod ReaderPromises
+pub mod Strays
+pub mod WriterPromises

@@ -1,11 +1,8 @@
 -- What the reader's answer promises, over any layout. Assumes nothing.
 use Prim.Native.Nat.{ℕ, zero, suc, _*_, _≤_}
 use native.Mathlib.Omega.{arith}
-use mathlib.Core.Bool.{Bool, true, false}
 use mathlib.Core.List.{List, [], _∷_, _++_, map}
-use mathlib.Core.Option.{Option, some, none}
-use mathlib.Core.Path.{_≡_, refl, sym, _∙_, ap, subst}
-use lib.Dec.{ltb}
+use mathlib.Core.Path.{_≡_, refl, sym, _∙_, ap}
 use lib.ListN.{length, drop}
 use lib.Seq.{drop-at}
 use borrow.Author.Tests.{le-ltb}
@@ -13,13 +10,13 @@ use Rattle.sieve.specs.declared.Break.{Break}
 use Rattle.sieve.specs.Bytes.{Bytes}
 use Rattle.sieve.specs.Lines.{Bill, written, billOf}
 use Rattle.sieve.specs.Rules.{Layout}
-use Rattle.sieve.specs.Verdict.{Refusal, under, Verdict, accepted, refused, verdict}
+use Rattle.sieve.specs.Verdict.{Refusal, Verdict, accepted, refused, verdict}
 use Rattle.sieve.specs.Lawful.{Lawful}
 use Rattle.sieve.specs.Keeps.{Keeps}
 use Rattle.sieve.specs.Places.{placesOf, listSize}
-use Rattle.sieve.specs.Reading.{Done, noRoom, readOnto, readAnswer}
+use Rattle.sieve.specs.Reading.{readAnswer}
 use Rattle.sieve.specs.Writing.{Span, spans, part, handed}
-use Rattle.sieve.specs.Demand.{Is, Earliest, DemandThree}
+use Rattle.sieve.specs.Demand.{Is, Earliest}
 use Rattle.sieve.proofs.Accepts.{read-back}
 use Rattle.sieve.proofs.Placing.{places-cut-out, list-length}
 use Rattle.sieve.proofs.DemandThree.{demand-three}
@@ -58,7 +55,7 @@ pub record Reads (L : Layout) (p : Bytes) (list : List ℕ) (n : ℕ) (k : Break
 
 module _ (L : Layout) (laws : (ls : List Bytes) → Lawful (L .width ls)) (two : 2 ≤ L .fewest-lines) where
   -- the listed places cut out the bill's lines, whatever stands past the list
-  cut-out-of : (p : Bytes) (n : ℕ) (k : Break) (b : Bill) → Is L p n k b → (rest : List ℕ) → handed p (placesOf L (billOf p) ++ rest) n ≡ b .lines
+  pub cut-out-of : (p : Bytes) (n : ℕ) (k : Break) (b : Bill) → Is L p n k b → (rest : List ℕ) → handed p (placesOf L (billOf p) ++ rest) n ≡ b .lines
   unfolding handed
   cut-out-of p n k b is rest =
       let same : billOf p ≡ b = ap billOf (sym (is .writes)) ∙ read-back L laws two b (is .keeps) in
