@@ -1,0 +1,3 @@
+pub mod ByteByByte
+pub mod Fronts
+pub mod Stepping
