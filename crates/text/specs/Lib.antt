@@ -1,1 +1,2 @@
+pub mod LinesIn
 pub mod Results

@@ -1,10 +1,13 @@
 // Characters, breaks and lines of any bytes: the walk over characters, the line finder, and laying a line.
+use sieve::Break;
 ghost use mathlib.Core.Path.{_≡_};
 ghost use Prim.Native.Nat.{_+_};
-ghost use lib.ListN.{drop, getD};
+ghost use lib.ListN.{length, drop, getD};
+ghost use Rattle.sieve.specs.Bytes.{same};
 ghost use Rattle.sieve.specs.Characters.{breakWidth, badPlace, characters};
 ghost use Rattle.swiss.specs.Latin.{inOne, inTwo, inThree, latin};
-ghost use Rattle.text.specs.Results.{walked};
+ghost use Rattle.text.specs.LinesIn.{lineOf};
+ghost use Rattle.text.specs.Results.{walked, IsLineAt, IsPlaceOf, ofWidth, breaksIn, ofBreak};
 
 // The byte `k` places after `at`, and 0 past the end.
 fn byte(s: &[u8], at: usize, k: usize) -> u8
@@ -107,4 +110,107 @@ pub fn walk(s: &[u8]) -> Walked
         }
     }
     found
+}
+
+// LF or CR.
+fn of_break(x: u8) -> bool
+    ensures { λ r. ⌜ r ≡ ofBreak x ⌝ }
+{
+    (x == 10) | (x == 13)
+}
+
+// Where a line ends, and where the next one starts; both the same where it is the last.
+pub struct LineAt {
+    pub end: usize,
+    pub next: usize,
+}
+
+// The line finder: of any bytes, the line that starts at `from`. Most bytes are neither LF nor CR, and are passed
+// without looking at their neighbours.
+pub fn line_at(s: &[u8], from: usize) -> LineAt
+    ensures { λ r. ⌜ IsLineAt (now (s .entry)) from r ⌝ }
+{
+    let mut at = from;
+    while at < s.len() {
+        if of_break(s[at]) {
+            let b = break_width(s, at);
+            if b != 0 {
+                let next = at + b;
+                return LineAt { end: at, next };
+            }
+        }
+        at += 1;
+    }
+    LineAt { end: at, next: at }
+}
+
+// How some bytes are parted into lines.
+pub enum Parted {
+    // all breaks are like the first: its kind (LF where there is none), and how many lines
+    Alike(Break, usize),
+    // the line that the first break unlike the first one ends
+    Unlike(usize),
+}
+
+// The kind of a break, by its width.
+fn break_of(width: usize) -> Break
+    ensures { λ r. ⌜ r ≡ ofWidth width ⌝ }
+{
+    if width == 2 { Break::CrLf } else { Break::Lf }
+}
+
+// Goes from line to line, and holds the break after each against the first.
+pub fn breaks(s: &[u8]) -> Parted
+    ensures { λ r. ⌜ r ≡ breaksIn (now (s .entry)) ⌝ }
+{
+    let first = line_at(s, 0);
+    let width = first.next - first.end;
+    if width == 0 {
+        return Parted::Alike(Break::Lf, 1);
+    }
+    let mut at = first.next;
+    let mut lines = 2;
+    loop {
+        let line = line_at(s, at);
+        let other = line.next - line.end;
+        if other == 0 {
+            return Parted::Alike(break_of(width), lines);
+        }
+        if other != width {
+            return Parted::Unlike(lines);
+        }
+        at = line.next;
+        lines += 1;
+    }
+}
+
+// Where a line lies.
+pub struct Place {
+    pub start: usize,
+    pub length: usize,
+}
+
+// The place of line `n`, counted from 1; 0 counts as 1. An absent line lies at the end, with length 0.
+pub fn line_place(s: &[u8], n: usize) -> Place
+    ensures { λ r. ⌜ IsPlaceOf (lineOf (now (s .entry)) n) r ⌝ }
+{
+    let mut at = 0;
+    let mut left = n;
+    loop {
+        let line = line_at(s, at);
+        let end = line.end;
+        let next = line.next;
+        if left <= 1 {
+            let length = end - at;
+            return Place { start: at, length };
+        }
+        if next == end {
+            return Place {
+                start: s.len(),
+                length: 0,
+            };
+        }
+        at = next;
+        left -= 1;
+    }
 }
