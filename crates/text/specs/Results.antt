@@ -12,12 +12,17 @@ use Rattle.sieve.specs.Bytes.{Bytes, firstSuch}
 use Rattle.sieve.specs.Lines.{cut, breaksOf, kind, sameBreak}
 use Rattle.sieve.specs.Characters.{breakWidth, lineFeeds}
 use Rattle.sieve.specs.Places.{Placed}
+use Rattle.swiss.specs.Letters.{digit, capital, digitOrCapital, alphanumeric}
 use Rattle.text.specs.declared.Walked.{Walked}
 use Rattle.text.specs.declared.Walked.the-variants.{Clean, Bad}
 use Rattle.text.specs.declared.LineAt.{LineAt}
 use Rattle.text.specs.declared.Parted.{Parted}
 use Rattle.text.specs.declared.Parted.the-variants.{Alike, Unlike}
 use Rattle.text.specs.declared.Place.{Place}
+use Rattle.text.specs.declared.Kind.{Kind}
+use Rattle.text.specs.declared.Kind.the-variants.{Digit, Capital, DigitOrCapital, Alphanumeric, Zero}
+use Rattle.text.specs.declared.Stray.{Stray}
+use Rattle.text.specs.declared.Stray.the-variants.{Nowhere, At}
 
 -- clean, or the line (1 + LF bytes before) and the place of the first bad byte
 abbrev pub walked : Bytes → Option ℕ → Walked
@@ -47,6 +52,19 @@ parted ks (some i) = Unlike i
 unfoldable pub breaksIn : Bytes → Parted
 breaksIn s = let ks = breaksOf (cut s) in parted ks (firstSuch (λ k. not (sameBreak (kind ks) k)) 1 ks)
 
+-- which bytes a kind of character is
+abbrev pub ofKind : Kind → ℕ → Bool
+ofKind Digit = digit
+ofKind Capital = capital
+ofKind DigitOrCapital = digitOrCapital
+ofKind Alphanumeric = alphanumeric
+ofKind Zero = λ x. eqb x 48
+
 -- the bytes that breaks are made of
 abbrev pub ofBreak : ℕ → Bool
 ofBreak x = eqb x 10 || eqb x 13
+
+-- the place of the first byte found, if one is
+abbrev pub strayAs : Option ℕ → Stray
+strayAs none = Nowhere
+strayAs (some at) = At at

@@ -1,13 +1,14 @@
 // Characters, breaks and lines of any bytes: the walk over characters, the line finder, and laying a line.
 use sieve::Break;
 ghost use mathlib.Core.Path.{_≡_};
+ghost use mathlib.Core.Bool.{cond};
 ghost use Prim.Native.Nat.{_+_};
 ghost use lib.ListN.{length, drop, getD};
-ghost use Rattle.sieve.specs.Bytes.{same};
+ghost use Rattle.sieve.specs.Bytes.{within, same, every, firstSuch};
 ghost use Rattle.sieve.specs.Characters.{breakWidth, badPlace, characters};
 ghost use Rattle.swiss.specs.Latin.{inOne, inTwo, inThree, latin};
 ghost use Rattle.text.specs.LinesIn.{lineOf};
-ghost use Rattle.text.specs.Results.{walked, IsLineAt, IsPlaceOf, ofWidth, breaksIn, ofBreak};
+ghost use Rattle.text.specs.Results.{walked, IsLineAt, IsPlaceOf, ofWidth, breaksIn, ofKind, ofBreak, strayAs};
 
 // The byte `k` places after `at`, and 0 past the end.
 fn byte(s: &[u8], at: usize, k: usize) -> u8
@@ -213,4 +214,101 @@ pub fn line_place(s: &[u8], n: usize) -> Place
         at = next;
         left -= 1;
     }
+}
+
+// How many characters a byte counts for: none where it is 80 to BF, which go on with a character that has begun.
+fn character_count(x: u8) -> usize
+    ensures { λ r. ⌜ r ≡ cond (within 0x80 0xBF x) 0 1 ⌝ }
+{
+    if (0x80 <= x) & (x <= 0xBF) { 0 } else { 1 }
+}
+
+// The characters of a line.
+pub fn characters(s: &[u8]) -> usize
+    ensures { λ r. ⌜ r ≡ characters (now (s .entry)) ⌝ }
+{
+    let mut n = 0;
+    let mut i = 0;
+    while i < s.len() {
+        n += character_count(s[i]);
+        i += 1;
+    }
+    n
+}
+
+// Whether two runs of bytes are the same.
+pub fn same(a: &[u8], b: &[u8]) -> bool
+    ensures { λ r. ⌜ r ≡ same (now (a .entry)) (now (b .entry)) ⌝ }
+{
+    if a.len() != b.len() {
+        return false;
+    }
+    let mut i = 0;
+    while i < a.len() {
+        if a[i] != b[i] {
+            return false;
+        }
+        i += 1;
+    }
+    true
+}
+
+// A kind of character, by its byte.
+pub enum Kind {
+    Digit,
+    Capital,
+    DigitOrCapital,
+    Alphanumeric,
+    Zero,
+}
+
+// Whether a byte is of a kind.
+fn of_kind(kind: Kind, x: u8) -> bool
+    ensures { λ r. ⌜ r ≡ ofKind kind x ⌝ }
+{
+    let digit = (48 <= x) & (x <= 57);
+    let capital = (65 <= x) & (x <= 90);
+    let small = (97 <= x) & (x <= 122);
+    match kind {
+        Kind::Digit => digit,
+        Kind::Capital => capital,
+        Kind::DigitOrCapital => digit | capital,
+        Kind::Alphanumeric => digit | capital | small,
+        Kind::Zero => x == 48,
+    }
+}
+
+// Whether every byte is of a kind.
+pub fn every(kind: Kind, s: &[u8]) -> bool
+    ensures { λ r. ⌜ r ≡ every (ofKind kind) (now (s .entry)) ⌝ }
+{
+    let mut i = 0;
+    while i < s.len() {
+        if of_kind(kind, s[i]) {
+            i += 1;
+        } else {
+            return false;
+        }
+    }
+    true
+}
+
+// Where a line holds CR or LF.
+pub enum Stray {
+    Nowhere,
+    At(usize),
+}
+
+// The first byte of a line that is CR or LF.
+pub fn stray_break(s: &[u8]) -> Stray
+    ensures { λ r. ⌜ r ≡ strayAs (firstSuch ofBreak 0 (now (s .entry))) ⌝ }
+{
+    let mut i = 0;
+    while i < s.len() {
+        if of_break(s[i]) {
+            return Stray::At(i);
+        }
+        i += 1;
+    }
+    Stray::Nowhere
 }
