@@ -5,3 +5,4 @@ pub mod FirstLine
 pub mod LinesAt
 pub mod Parting
 pub mod LinesLie
+pub mod Lays

@@ -2,13 +2,16 @@
 use sieve::Break;
 ghost use mathlib.Core.Path.{_≡_};
 ghost use mathlib.Core.Bool.{cond};
+ghost use mathlib.Core.List.{_++_};
 ghost use Prim.Native.Nat.{_+_};
 ghost use lib.ListN.{length, drop, getD};
 ghost use Rattle.sieve.specs.Bytes.{within, same, every, firstSuch};
+ghost use Rattle.sieve.specs.Lines.{breakBytes};
 ghost use Rattle.sieve.specs.Characters.{breakWidth, badPlace, characters};
 ghost use Rattle.swiss.specs.Latin.{inOne, inTwo, inThree, latin};
 ghost use Rattle.text.specs.LinesIn.{lineOf};
 ghost use Rattle.text.specs.Results.{walked, IsLineAt, IsPlaceOf, ofWidth, breaksIn, ofKind, ofBreak, strayAs};
+ghost use Rattle.text.specs.Laid.{withBreak, room, laid};
 
 // The byte `k` places after `at`, and 0 past the end.
 fn byte(s: &[u8], at: usize, k: usize) -> u8
@@ -311,4 +314,75 @@ pub fn stray_break(s: &[u8]) -> Stray
         i += 1;
     }
     Stray::Nowhere
+}
+
+// What is laid after a line.
+pub enum After {
+    Nothing,
+    ABreak(Break),
+}
+
+// Copies bytes to the front of `dest`, and answers how many; none where they do not fit, and `dest` stays as it is.
+fn copy(dest: &mut [u8], bytes: &[u8]) -> usize
+    ensures { λ r. ⌜ r ≡ room (now (dest .entry)) (now (bytes .entry)) ⌝ }
+    ensures { λ _. ⌜ now (dest .exit) ≡ laid (now (dest .entry)) (now (bytes .entry)) ⌝ }
+{
+    if dest.len() < bytes.len() {
+        return 0;
+    }
+    let mut i = 0;
+    while i < bytes.len() {
+        dest[i] = bytes[i];
+        i += 1;
+    }
+    i
+}
+
+// Lays a break in the front of `dest`.
+fn lay_break(dest: &mut [u8], k: Break) -> usize
+    ensures { λ r. ⌜ r ≡ room (now (dest .entry)) (breakBytes k) ⌝ }
+    ensures { λ _. ⌜ now (dest .exit) ≡ laid (now (dest .entry)) (breakBytes k) ⌝ }
+{
+    match k {
+        Break::Lf => copy(dest, b"\n"),
+        Break::CrLf => copy(dest, b"\r\n"),
+    }
+}
+
+// How many bytes a break has.
+fn break_length(k: Break) -> usize
+    ensures { λ r. ⌜ r ≡ length (breakBytes k) ⌝ }
+{
+    match k {
+        Break::Lf => 1,
+        Break::CrLf => 2,
+    }
+}
+
+// Lays a line and a break, both or neither: room for both is asked first.
+fn lay_with_break(dest: &mut [u8], line: &[u8], k: Break) -> usize
+    ensures { λ r. ⌜ r ≡ room (now (dest .entry)) (now (line .entry) ++ breakBytes k) ⌝ }
+    ensures { λ _. ⌜ now (dest .exit) ≡ laid (now (dest .entry)) (now (line .entry) ++ breakBytes k) ⌝ }
+{
+    if dest.len() < line.len() {
+        return 0;
+    }
+    if dest.len() - line.len() < break_length(k) {
+        return 0;
+    }
+    let n = copy(dest, line);
+    n + lay_break(&mut dest[n..], k)
+}
+
+// Lays a line, and the break after it where one is asked for, in the front of `dest`: what lies behind stays. Answers
+// how many bytes it laid; where they do not fit, none, and `dest` stays as it is. A caller lends the tail of its
+// destination, from what is laid already.
+pub fn lay(dest: &mut [u8], line: &[u8], after: After) -> usize
+    ensures { λ r. ⌜ r ≡ room (now (dest .entry)) (withBreak (now (line .entry)) after) ⌝ }
+    ensures { λ _. ⌜ now (dest .exit) ≡ laid (now (dest .entry)) (withBreak (now (line .entry)) after) ⌝ }
+{
+    match after {
+        After::Nothing => copy(dest, line),
+        After::ABreak(k) => lay_with_break(dest, line, k),
+    }
 }
