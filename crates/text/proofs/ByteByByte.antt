@@ -1,4 +1,4 @@
--- What a loop that goes byte by byte leans on: what is left from a place on, and counts of one at most. Assumes nothing.
+-- What loops that go byte by byte lean on: what is left from a place on, the first byte that passes a test, and sameness. Assumes nothing.
 use Prim.Native.Nat.{ℕ, suc, _+_, _≤_, _<_}
 use native.Mathlib.Numerals.{add-one}
 use mathlib.Core.Bool.{Bool, true, false, cond, _&&_, and-false}

@@ -1,4 +1,4 @@
--- The first line of any bytes, what comes after it, and the same from any place on. Assumes nothing.
+-- The first line of any bytes: what can come after it, and where it ends, byte by byte. Assumes nothing.
 use Prim.Native.Nat.{ℕ, suc, _+_, _≤_, _<_}
 use native.Mathlib.Omega.{arith}
 use mathlib.Core.Bool.{Bool, true, false, true≢false, cond, _&&_, _||_}

@@ -1,4 +1,4 @@
--- What the first bytes of some are, where a character or a break begins there: they are there, and a break holds one LF, a character none. Assumes nothing.
+-- The bytes of a character or a break that begins here are there; a break holds one LF, and a character none. Assumes nothing.
 use Prim.Native.Nat.{ℕ, _+_, _≤_}
 use native.Mathlib.Nat.{zero-add}
 use native.Mathlib.Omega.{arith}

@@ -8,7 +8,7 @@ use lib.ListN.{length, length-append}
 use borrow.Rule.Slice.PartMut.{putMid}
 use Rattle.sieve.specs.Lines.{breakBytes}
 use Rattle.text.specs.Laid.{room, laid}
-use Rattle.text.proofs.Lays.{no-room, room-for, room-fits, one-after-the-other}
+use Rattle.text.proofs.Lays.{no-room, room-fits, one-after-the-other}
 use Rattle.text.proofs.lay_with_break.Statement.{statement}
 use Rattle.text.proofs.lay_with_break.Tie as tie
 
@@ -39,9 +39,8 @@ fits c = omega (arith, c .before .break-length .ensures)
 line-within : (c : tie.After-slice-known2) → c .before .before .copy .result ≤ length (c .before .before .copy .last .0)
 line-within c =
     let f = c .before .before .copy in
-    let e = c .before .before .before .before in
-    let a = e .before .before .before .before .before .args in
-    omega (arith, f .ensures .0, room-for (a .dest .now) (a .line .now) (omega (arith, fits e)))
+    let a = c .before .before .before .before .before .before .before .before .before .args in
+    omega (arith, f .ensures .0, room-fits (a .dest .now) (a .line .now))
 
 sub-lay-break : tie.Need-sub-lay-break
 sub-lay-break c = line-within c
