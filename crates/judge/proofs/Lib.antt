@@ -1,0 +1,5 @@
+pub mod Firsts
+pub mod Parts
+pub mod Listing
+pub mod Listed
+pub mod Stages

@@ -1,0 +1,5 @@
+pub mod Findings
+pub mod Content
+pub mod Listed
+pub mod Groups
+pub mod Stages
