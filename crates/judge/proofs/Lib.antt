@@ -1,4 +1,3 @@
-pub mod Firsts
 pub mod Parts
 pub mod Listing
 pub mod Listed

@@ -1,20 +1,15 @@
--- Parts of a text. Assumes nothing.
+-- Lines within a payload. Assumes nothing.
 use Prim.Native.Nat.{ℕ, zero, suc, _+_, _-_, _≤_}
 use native.Mathlib.Omega.{arith}
 use mathlib.Core.Bool.{Bool, true, false, cond}
 use mathlib.Core.List.{List, [], _∷_, _++_, map}
-use mathlib.Core.Path.{_≡_, subst}
-use lib.ListN.{length, getD, take, drop, length-drop, length-append}
-use lib.Seq.{take-all}
+use mathlib.Core.Path.{subst}
+use lib.ListN.{length, getD, length-append}
 use Rattle.sieve.specs.Bytes.{Bytes, within}
 use Rattle.sieve.specs.Lines.{breakBytes, Next, Cut, gluedAfter, glued, cut, linesOf}
 use Rattle.sieve.specs.Characters.{characters}
 use Rattle.sieve.specs.Rules.{line}
 use Rattle.sieve.proofs.Cutting.{glued-cut}
-
--- the part from place n to the end
-pub rest : (n : ℕ) (s : Bytes) → take (length s - n) (drop n s) ≡ drop n s
-rest n s = take-all (length s - n) (drop n s) (simp length-drop (omega arith))
 
 pub characters-few : (s : Bytes) → characters s ≤ length s
 unfolding characters

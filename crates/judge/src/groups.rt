@@ -1,9 +1,8 @@
 // The rules of a bill, group by group of lines, each after what was found before. Once a rule is broken, later groups are passed over.
-use crate::Finding;
-use crate::content;
-use crate::limits;
 use crate::places::line;
-use crate::rule;
+use content::Finding;
+use content::limits;
+use content::rule;
 use digits::number;
 use sieve::Fault;
 use text::characters;
@@ -17,8 +16,8 @@ ghost use Rattle.sieve.specs.Lines.{cut, linesOf};
 ghost use Rattle.sieve.specs.Rules.{line};
 ghost use Rattle.sieve.specs.Verdict.{aboutLines, first};
 ghost use Rattle.swiss.specs.Swiss.{header, account, address, reserved, payment, reference, information, pairing, together, rules};
-ghost use Rattle.judge.specs.Findings.{finding};
-ghost use Rattle.judge.specs.Content.{emptied, filledIn, short};
+ghost use Rattle.content.specs.Findings.{finding};
+ghost use Rattle.content.specs.Content.{emptied, filledIn, short};
 ghost use Rattle.judge.specs.Listed.{listed};
 ghost use Rattle.swiss.specs.Mod97.{number};
 ghost use Rattle.judge.specs.Groups.{absentIf};

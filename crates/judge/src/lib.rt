@@ -1,13 +1,11 @@
 // The verdict on a payload, in code.
-mod content;
-mod forms;
 mod groups;
-mod limits;
 mod places;
 
-use limits::FEWEST_LINES;
-use limits::MOST_BYTES;
-use limits::MOST_LINES;
+use content::Finding;
+use content::limits::FEWEST_LINES;
+use content::limits::MOST_BYTES;
+use content::limits::MOST_LINES;
 use sieve::Answer;
 use sieve::Break;
 use sieve::Fault;
@@ -15,35 +13,9 @@ use text::Parted;
 use text::Walked;
 use text::breaks;
 use text::walk;
-ghost use mathlib.Core.List.{[], _∷_};
 ghost use mathlib.Core.Path.{_≡_};
 ghost use lib.ListN.{replicate};
-ghost use Rattle.sieve.specs.Verdict.{found, first};
-ghost use Rattle.sieve.specs.Paper.{paperFault};
-ghost use Rattle.judge.specs.Findings.{finding};
 ghost use Rattle.judge.specs.Stages.{IsJudged, Characters, OneKind};
-
-// What the rules that were looked at so far find: nothing, or the first that is broken.
-pub enum Finding {
-    Kept,
-    Broken(Fault),
-}
-
-// One rule more.
-fn rule(before: Finding, broken: bool, fault: Fault) -> Finding
-    ensures { λ r. ⌜ finding r ≡ first (finding before ∷ found broken (paperFault fault) ∷ []) ⌝ }
-{
-    match before {
-        Finding::Broken(f) => Finding::Broken(f),
-        Finding::Kept => {
-            if broken {
-                Finding::Broken(fault)
-            } else {
-                Finding::Kept
-            }
-        }
-    }
-}
 
 // What a payload is found to be, and where its lines lie; where it is refused, 68 times 0.
 pub struct Judged {

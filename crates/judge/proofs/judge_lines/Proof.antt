@@ -1,5 +1,5 @@
 use Rattle.judge.specs.Stages.{judgedPlaces}
-use Rattle.judge.specs.Findings.{finding}
+use Rattle.content.specs.Findings.{finding}
 use Rattle.judge.proofs.Stages.{refused-judged, lines-broken, lines-kept, listed-places}
 use mathlib.Core.Path.{sym, ap, _∙_}
 use borrow.Author.Needs.{needs}

@@ -1,5 +1,5 @@
 use mathlib.Core.Path.{sym}
-use Rattle.judge.proofs.Firsts.{first-some}
+use Rattle.content.proofs.Firsts.{first-some}
 use borrow.Author.Needs.{needs}
 use Rattle.judge.proofs.groups.account.Statement.{statement}
 use Rattle.judge.proofs.groups.account.Tie as tie

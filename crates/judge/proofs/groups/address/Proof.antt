@@ -1,6 +1,6 @@
 use native.Mathlib.Omega.{arith}
 use mathlib.Core.Path.{sym, _∙_}
-use Rattle.judge.proofs.Firsts.{then, first-some, pass-over}
+use Rattle.content.proofs.Firsts.{then, first-some, pass-over}
 use borrow.Author.Needs.{needs}
 use Rattle.judge.proofs.groups.address.Statement.{statement}
 use Rattle.judge.proofs.groups.address.Tie as tie

@@ -1,5 +1,5 @@
 use mathlib.Core.Path.{_∙_}
-use Rattle.judge.proofs.Firsts.{then, first-none}
+use Rattle.content.proofs.Firsts.{then, first-none}
 use borrow.Author.Needs.{needs}
 use Rattle.judge.proofs.groups.header.Statement.{statement}
 use Rattle.judge.proofs.groups.header.Tie as tie

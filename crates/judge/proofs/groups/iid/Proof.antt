@@ -4,7 +4,7 @@ use native.Mathlib.Omega.{arith}
 use mathlib.Core.Path.{sym, ap, _∙_}
 use lib.ListN.{length, drop, length-drop, drop-of-length-le}
 use lib.Seq.{take-all}
-use Rattle.judge.proofs.Parts.{rest}
+use Rattle.content.proofs.Parts.{rest}
 use borrow.Author.Needs.{needs}
 use Rattle.judge.proofs.groups.iid.Statement.{statement}
 use Rattle.judge.proofs.groups.iid.Tie as tie

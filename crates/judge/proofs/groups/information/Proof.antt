@@ -1,5 +1,5 @@
 use mathlib.Core.Path.{sym}
-use Rattle.judge.proofs.Firsts.{then, first-some}
+use Rattle.content.proofs.Firsts.{then, first-some}
 use borrow.Author.Needs.{needs}
 use Rattle.judge.proofs.groups.information.Statement.{statement}
 use Rattle.judge.proofs.groups.information.Tie as tie

@@ -4,7 +4,7 @@ use Rattle.sieve.specs.Characters.{characters}
 use Rattle.judge.proofs.Parts.{characters-few, line-within}
 use native.Mathlib.Omega.{arith}
 use mathlib.Core.Path.{sym, ap, _∙_}
-use Rattle.judge.proofs.Firsts.{then, first-some}
+use Rattle.content.proofs.Firsts.{then, first-some}
 use borrow.Author.Needs.{needs}
 use Rattle.judge.proofs.groups.pairs.Statement.{statement}
 use Rattle.judge.proofs.groups.pairs.Tie as tie

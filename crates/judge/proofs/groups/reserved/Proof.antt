@@ -1,5 +1,5 @@
 use native.Mathlib.Omega.{arith}
-use Rattle.judge.proofs.Firsts.{then}
+use Rattle.content.proofs.Firsts.{then}
 use borrow.Author.Needs.{needs}
 use Rattle.judge.proofs.groups.reserved.Statement.{statement}
 use Rattle.judge.proofs.groups.reserved.Tie as tie

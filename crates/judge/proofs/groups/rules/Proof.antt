@@ -1,6 +1,6 @@
 use mathlib.Core.List.{flatten}
 use Rattle.swiss.specs.Swiss.{rules}
-use Rattle.judge.proofs.Firsts.{then}
+use Rattle.content.proofs.Firsts.{then}
 use borrow.Author.Needs.{needs}
 use Rattle.judge.proofs.groups.rules.Statement.{statement}
 use Rattle.judge.proofs.groups.rules.Tie as tie
