@@ -3,13 +3,13 @@ use Prim.Native.Nat.{ℕ, zero, suc, _+_, _-_, _*_, _≤_, _<_}
 use native.Mathlib.Nat.{add-zero, sub-zero}
 use native.Mathlib.Numerals.{add-one}
 use native.Mathlib.Omega.{arith}
-use mathlib.Core.Bool.{Bool, true, false, _||_}
-use mathlib.Core.List.{List, [], _∷_, _++_, map, append-nil, append-assoc}
+use mathlib.Core.Bool.{Bool, true, false}
+use mathlib.Core.List.{List, [], _∷_, _++_, append-assoc}
 use mathlib.Core.Option.{Option, some, none, Option·none-ne-some, Option·map}
 use mathlib.Core.Path.{_≡_, refl, sym, ap, _∙_}
 use lib.Dec.{ltb}
 use lib.ListN.{length, getD, take, drop, length-append, length-drop, length-take}
-use lib.Seq.{getD-drop, drop-drop, take-add, take-at, drop-at, take-append-seam, drop-append-seam, drop-append-add, length-take-le, take-all}
+use lib.Seq.{getD-drop, drop-drop, take-add, take-at, drop-at, take-append-seam, drop-append-seam, length-take-le}
 use borrow.Rule.Slice.PartMut.{midOf, putMid}
 use borrow.Author.Tests.{lt-ltb, le-ltb, ltb-true, ltb-false}
 use Rattle.sieve.specs.declared.Break.{Break}
@@ -17,9 +17,9 @@ use Rattle.sieve.specs.declared.Break.the-variants.{Lf, CrLf}
 use Rattle.sieve.specs.Bytes.{Bytes, firstSuch}
 use Rattle.sieve.specs.Lines.{breakBytes, afterBreaks, joined}
 use Rattle.sieve.specs.Verdict.{Refusal, underAt}
-use Rattle.sieve.specs.Places.{Placed, placed}
+use Rattle.sieve.specs.Places.{placed}
 use Rattle.sieve.proofs.Findings.{such-at}
-use Rattle.sieve.specs.Writing.{Span, spans, part, handed, strayBreak}
+use Rattle.sieve.specs.Writing.{spans, handed, strayBreak}
 use Rattle.text.specs.declared.Stray.the-variants.{Nowhere, At}
 use Rattle.text.specs.Results.{ofBreak, strayAs}
 use Rattle.text.specs.Laid.{withBreak, room, laid}
@@ -133,11 +133,12 @@ one-break-more : (k : Break) (l : Bytes) (ls : List Bytes) → length (joined k 
 unfolding breaksAll
 one-break-more k l [] = omega (arith, length-append l [])
 one-break-more k l (m ∷ ls) =
-    omega
-    (arith,
-    one-break-more k m ls,
-    length-append l (breakBytes k ++ (m ++ afterBreaks k ls)),
-    length-append (breakBytes k) (m ++ afterBreaks k ls))
+    omega (
+      arith,
+      one-break-more k m ls,
+      length-append l (breakBytes k ++ (m ++ afterBreaks k ls)),
+      length-append (breakBytes k) (m ++ afterBreaks k ls),
+    )
 
 module _ (text : Bytes) (list : List ℕ) (count : ℕ) (k : Break) where
   abbrev pub strayFrom : ℕ → ℕ → Option Refusal

@@ -18,7 +18,7 @@ ghost use lib.ListN.{length, drop, getD};
 ghost use Rattle.sieve.specs.Lines.{breakBytes, joined};
 ghost use Rattle.sieve.specs.Writing.{handed};
 ghost use Rattle.writer.specs.Handing.{lineAt, outsideAs, firstOutside, Inside, measured, breakIf};
-ghost use Rattle.writer.specs.Writing.{IsWritten};
+ghost use Rattle.writer.specs.Writing.{IsWritten, Found, Joined, Accepted};
 
 // Two numbers for each of 34 lines.
 const LIST_SIZE: usize = 68;
@@ -95,17 +95,19 @@ fn measure(text: &[u8], list: &[u16], count: usize, k: Break) -> Measured
 fn after_line(more: bool, k: Break) -> After
     ensures { λ r. ⌜ r ≡ breakIf more k ⌝ }
 {
-    if more { After::ABreak(k) } else { After::Nothing }
+    if more {
+        After::ABreak(k)
+    } else {
+        After::Nothing
+    }
 }
 
 // Lays line after line, each with the break after it but the last, into the part of the destination after what is
 // already written.
 fn lay_lines(dest: &mut [u8], text: &[u8], list: &[u16], count: usize, k: Break)
     requires { ⌜ Inside (now text) (now list) count × (length (joined k (handed (now text) (now list) count)) ≤ length (now dest)) ⌝ }
-    ensures {
-        λ _.
-        ⌜ now (dest .exit) ≡ joined k (handed (now (text .entry)) (now (list .entry)) count) ++ drop (length (joined k (handed (now (text .entry)) (now (list .entry)) count))) (now (dest .entry)) ⌝
-    }
+    ensures { λ _.
+        ⌜ now (dest .exit) ≡ joined k (handed (now (text .entry)) (now (list .entry)) count) ++ drop (length (joined k (handed (now (text .entry)) (now (list .entry)) count))) (now (dest .entry)) ⌝ }
 {
     let mut n = 0;
     let mut i = 0;
@@ -113,5 +115,79 @@ fn lay_lines(dest: &mut [u8], text: &[u8], list: &[u16], count: usize, k: Break)
         let line = handed_line(text, list, i);
         i += 1;
         n += lay(&mut dest[n..], line, after_line(i < count, k));
+    }
+}
+
+// Lays lines that the reader accepts, when they are joined, into a destination that has room for them.
+fn write_accepted(
+    text: &[u8],
+    list: &[u16],
+    count: usize,
+    k: Break,
+    dest: &mut [u8],
+    n: usize,
+) -> Written
+    requires { ⌜ Accepted (now text) (now list) count k (now dest) n ⌝ }
+    ensures { λ r. ⌜ IsWritten (now (text .entry)) (now (list .entry)) count k (now (dest .entry)) r (now (dest .exit)) ⌝ }
+{
+    if dest.len() < n {
+        return Written::Refused(Fault::NoRoom);
+    }
+    lay_lines(dest, text, list, count, k);
+    Written::Length(n)
+}
+
+// Asks the reader about the joined lines. They are joined in a buffer of its own, so that a refusal leaves the
+// destination as it is.
+fn write_joined(
+    text: &[u8],
+    list: &[u16],
+    count: usize,
+    k: Break,
+    dest: &mut [u8],
+    n: usize,
+) -> Written
+    requires { ⌜ Joined (now text) (now list) count k (now dest) n ⌝ }
+    ensures { λ r. ⌜ IsWritten (now (text .entry)) (now (list .entry)) count k (now (dest .entry)) r (now (dest .exit)) ⌝ }
+{
+    if MOST_BYTES < n {
+        return Written::Refused(Fault::TooManyBytes);
+    }
+    let mut joined = [0; 997];
+    lay_lines(&mut joined, text, list, count, k);
+    let judged = judge(&joined[0..n]);
+    let answer = judged.answer;
+    match answer {
+        Answer::Refused(f) => Written::Refused(f),
+        Answer::Accepted(_, _) => write_accepted(text, list, count, k, dest, n),
+    }
+}
+
+// Looks for stray breaks in lines that all lie inside the text.
+fn write_lines(text: &[u8], list: &[u16], count: usize, k: Break, dest: &mut [u8]) -> Written
+    requires { ⌜ Found (now text) (now list) count k (now dest) ⌝ }
+    ensures { λ r. ⌜ IsWritten (now (text .entry)) (now (list .entry)) count k (now (dest .entry)) r (now (dest .exit)) ⌝ }
+{
+    match measure(text, list, count, k) {
+        Measured::Stray(i, at) => Written::Refused(Fault::BadCharacter(i, at)),
+        Measured::Length(n) => write_joined(text, list, count, k, dest, n),
+    }
+}
+
+// Joins the lines that the first `count` places give of the text, with the break between them, in the front of the
+// destination, and answers how many bytes those are. A refusal changes no byte of it.
+pub fn write(text: &[u8], places: &[u16], count: usize, brk: Break, dest: &mut [u8]) -> Written
+    ensures { λ r. ⌜ IsWritten (now (text .entry)) (now (places .entry)) count brk (now (dest .entry)) r (now (dest .exit)) ⌝ }
+{
+    if places.len() < LIST_SIZE {
+        return Written::Refused(Fault::NoRoom);
+    }
+    if (FEWEST_LINES <= count) & (count <= MOST_LINES) {
+        match first_outside(text, places, count) {
+            Outside::At(i) => Written::Refused(Fault::OutsideText(i)),
+            Outside::Nowhere => write_lines(text, places, count, brk, dest),
+        }
+    } else {
+        Written::Refused(Fault::LineCount(count))
     }
 }

@@ -1,4 +1,3 @@
-use borrow.Author.Needs.{needs}
 use Rattle.writer.proofs.after_line.Statement.{statement}
 use Rattle.writer.proofs.after_line.Tie as tie
 

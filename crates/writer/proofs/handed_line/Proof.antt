@@ -2,7 +2,6 @@ use Rattle.writer.specs.Handing.{spanAt}
 use mathlib.Core.Path.{_≡_}
 use native.Mathlib.Omega.{arith}
 use Prim.Native.Nat.{_+_, _-_, _*_}
-use borrow.Author.Needs.{needs}
 use Rattle.writer.proofs.handed_line.Statement.{statement}
 use Rattle.writer.proofs.handed_line.Tie as tie
 

@@ -1,18 +1,17 @@
 use lib.Seq.{take-length}
 use borrow.Rule.Slice.PartMut.{putMid}
 use Rattle.writer.specs.Handing.{lineAt, breakIf}
-use Rattle.text.specs.Laid.{withBreak, room, laid}
+use Rattle.text.specs.Laid.{withBreak}
 use lib.Dec.{ltb}
 use Rattle.writer.proofs.Handing.{still, from-start, no-line, joined-next, laid-behind}
 use Rattle.sieve.specs.Writing.{handed}
 use Rattle.sieve.specs.Lines.{joined}
-use Rattle.sieve.specs.Bytes.{Bytes}
 use lib.ListN.{length, take, drop, length-drop}
 use borrow.Author.Needs.{needs}
 use mathlib.Core.Path.{_≡_, refl, sym, ap, _∙_}
 use mathlib.Core.List.{[], _++_}
 use native.Mathlib.Omega.{arith}
-use Prim.Native.Nat.{_+_, _-_, _*_, _≤_}
+use Prim.Native.Nat.{_+_, _-_, _≤_}
 use Rattle.writer.proofs.lay_lines.Statement.{statement}
 use Rattle.writer.proofs.lay_lines.Tie as tie
 

@@ -1,4 +1,4 @@
-use Rattle.writer.specs.declared.Measured.the-variants.{Stray, Length}
+use Rattle.writer.specs.declared.Measured.the-variants.{Length}
 use Rattle.writer.specs.Handing.{lineAt, measured}
 use Rattle.writer.proofs.Handing.{still, strayFrom, breaksAll, from-start, all-breaks, line-short, break-short, stray-is, stray-none, stray-within, stray-here, stray-later, length-here, none-left}
 use Rattle.sieve.specs.Writing.{handed, strayBreak}
@@ -25,8 +25,7 @@ abbrev μ-loop : tie.MeasureT-loop
 
 loop-holds : tie.Need-loop-holds Inv-loop μ-loop
 loop-holds c =
-    let a = c .before .before .args in
-    (
+    let a = c .before .before .args in (
       omega arith,
       omega arith,
       ap (λ (ls : List Bytes). strayBreak 1 (placed 0 (a .k) ls)) (sym (from-start (a .text .now) (a .list .now) (a .count) (a .k))),
@@ -55,11 +54,12 @@ add-t11 c = omega (arith, c .before .before .before .before .before .before .bef
 add-t12 : tie.Need-add-t12 Inv-loop μ-loop
 add-t12 c =
     let l = c .before .before .before .before .before .before in
-    omega
-    (arith,
-    l .before .before .before .pre .2,
-    in-hand (c .before .before .before),
-    stray-within (c .before .before .before .before .handed-line .result .now) (c .before .j .given .0 .0) (stray-is _ _ (sym (c .before .j .given .1) ∙ c .before .before .before .stray-break .ensures)))
+    omega (
+      arith,
+      l .before .before .before .pre .2,
+      in-hand (c .before .before .before),
+      stray-within (c .before .before .before .before .handed-line .result .now) (c .before .j .given .0 .0) (stray-is _ _ (sym (c .before .j .given .1) ∙ c .before .before .before .stray-break .ensures)),
+    )
 
 returns : tie.Need-returns Inv-loop μ-loop
 unfolding measured
@@ -97,8 +97,7 @@ loop-again c =
     let a = l .before .before .before .args in
     let line = c .before .before .before .before .handed-line .ensures in
     let clear = stray-none (c .before .before .before .before .handed-line .result .now) (sym (c .before .enum-told .given .1) ∙ c .before .before .before .stray-break .ensures) in
-    let onward : l .loop .at + length (c .before .before .before .before .handed-line .result .now) + c .break-length .result ≡ l .loop .at + length (lineAt (a .text .now) (a .list .now) (l .loop .i)) + length (breakBytes (a .k)) = rw (line, c .break-length .ensures) in
-    (
+    let onward : l .loop .at + length (c .before .before .before .before .handed-line .result .now) + c .break-length .result ≡ l .loop .at + length (lineAt (a .text .now) (a .list .now) (l .loop .i)) + length (breakBytes (a .k)) = rw (line, c .break-length .ensures) in (
       omega (arith, c .before .before .before .before .before .loop-test .taken),
       omega (arith, in-hand (c .before .before .before), c .break-length .ensures, break-short (a .k) .1),
       l .loop .inv .2 ∙ stray-later (a .text .now) (a .list .now) (a .count) (a .k) (l .loop .i) (l .loop .at) (c .before .before .before .before .before .loop-test .taken) (rw line at clear) ∙ ap (strayFrom (a .text .now) (a .list .now) (a .count) (a .k) (l .loop .i + 1)) (sym onward),
