@@ -4,7 +4,7 @@ use native.Mathlib.Omega.{arith}
 use mathlib.Core.Bool.{true, false, not, and-eq-true-iff}
 use mathlib.Core.List.{List, [], _∷_, _++_, map, List·Memᴰ, List·Memᴰ·head, List·Memᴰ·tail, List·Memᴰ·not-nil, List·Memᴰ·cases-cons}
 use mathlib.Core.Logic.{_⊎_, inl, inr}
-use mathlib.Core.Option.{map-eq-none-iff}
+use mathlib.Core.Option.{none, map-eq-none-iff}
 use mathlib.Core.Path.{_≡_, refl, sym, _∙_, ap}
 use lib.Dec.{eqb, leb, eqb·suc-zero}
 use lib.ListN.{length}
@@ -14,7 +14,7 @@ use Rattle.sieve.specs.declared.Break.the-variants.{Lf, CrLf}
 use Rattle.sieve.specs.Bytes.{Bytes, within}
 use Rattle.sieve.specs.Lines.{Next, gluedAfter, Bill, cut, breakBytes, afterBreaks, joined, written, linesOf, breaksOf, kind, sameBreak, billOf}
 use Rattle.sieve.specs.Rules.{Layout}
-use Rattle.sieve.specs.Verdict.{accepted, findings, first, verdict}
+use Rattle.sieve.specs.Verdict.{mixedBreaks, accepted, findings, first, verdict}
 use Rattle.sieve.specs.Lawful.{Clean, Lawful}
 use Rattle.sieve.specs.Keeps.{Keeps}
 use Rattle.sieve.specs.Demand.{Is, AcceptsExactly}
@@ -27,6 +27,17 @@ use Rattle.sieve.proofs.Findings.{found-none, settled-accepts, verdict-
 alike : (k : Break) (ns : List Next) → ((j : Break) → List·Memᴰ j (map (λ n. n .break) ns) → j ≡ k) → afterBreaks k (map (λ n. n .line) ns) ≡ gluedAfter ns
 alike k [] h = refl
 alike k (n ∷ ns) h = rw (h (n .break) (List·Memᴰ·head refl), alike k ns (λ j m. h j (List·Memᴰ·tail m)))
+
+-- where no break is unlike the first, all are like it, and the bytes are what the bill that they are read as is written as
+
+pub each-like : (p : Bytes) → mixedBreaks (breaksOf (cut p)) ≡ none → (j : Break) → List·Memᴰ j (breaksOf (cut p)) → j ≡ kind (breaksOf (cut p))
+each-like p h j m =
+    let k = kind (breaksOf (cut p)) in
+    like k j (such-none (λ i. not (sameBreak k i)) 1 (breaksOf (cut p)) (map-eq-none-iff _ _ .0 h) j m)
+
+pub unmixed-written : (p : Bytes) → mixedBreaks (breaksOf (cut p)) ≡ none → written (billOf p) ≡ p
+unfolding written billOf
+unmixed-written p h = ap (λ (t : Bytes). cut p .first ++ t) (alike (kind (breaksOf (cut p))) (cut p .rest) (each-like p h)) ∙ glued-cut p
 
 lines-back : (k : Break) (ls : List Bytes) → map (λ n. n .line) (nexts k ls) ≡ ls
 lines-back k [] = refl
@@ -60,16 +71,13 @@ within-both lo hi n h = let (a, b) = and-eq-true-iff (leb lo n) _ .0 h in (leb-t
 
 module _ (L : Layout) (laws : (ls : List Bytes) → Lawful (L .width ls)) where
   sound : (p : Bytes) (n : ℕ) (k : Break) → verdict L p ≡ accepted n k → (b : Bill) × Is L p n k b
-  unfolding billOf written
+  unfolding billOf
   sound p n k h =
-      let c = cut p in
-      let ls = linesOf c in
-      let j = kind (breaksOf c) in
+      let ls = linesOf (cut p) in
       let (nothing, count, break) = settled-accepts (billOf p) (first (findings L p)) (sym (verdict-is L p) ∙ h) in
       let all = clear L p nothing in
       let (least, most) = within-both (L .fewest-lines) (L .most-lines) (length ls) (not-false _ (found-none _ _ (all .counted))) in
-      let unmixed = such-none (λ k. not (sameBreak j k)) 1 (breaksOf c) (map-eq-none-iff _ _ .0 (all .unmixed)) in
-      let same : joined j ls ≡ p = ap (λ (t : Bytes). c .first ++ t) (alike j (c .rest) (λ k m. like j k (unmixed k m))) ∙ glued-cut p in (
+      let same = unmixed-written p (all .unmixed) in (
         billOf p,
         record {
           keeps = record {
