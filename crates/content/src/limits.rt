@@ -6,6 +6,9 @@ pub const FEWEST_LINES: usize = 31;
 
 pub const MOST_LINES: usize = 34;
 
+// The list of places: start and byte length for each of 34 lines.
+pub const LIST_SIZE: usize = 68;
+
 // The most characters that a line may have.
 pub const NAME_MOST: usize = 70;
 

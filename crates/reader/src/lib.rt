@@ -1,4 +1,5 @@
 // Reads a payload: the verdict, then room, then the places of its lines.
+use content::limits::LIST_SIZE;
 use judge::judge;
 use sieve::Answer;
 use sieve::Fault;
@@ -7,9 +8,6 @@ ghost use mathlib.Core.Path.{_≡_};
 ghost use Prim.Native.Nat.{_≤_};
 ghost use lib.ListN.{length, drop};
 ghost use Rattle.reader.specs.Reading.{IsRead};
-
-// How many numbers the list of places has: two for each of 34 lines.
-const LIST_SIZE: usize = 68;
 
 // Copies the places to the front of a list that has room for them; the numbers past them stay.
 fn fill(list: &mut [u16], places: &[u16])

@@ -1,5 +1,6 @@
 // Writes a bill: its lines, found in a text by a list of places, joined by a break.
 use content::limits::FEWEST_LINES;
+use content::limits::LIST_SIZE;
 use content::limits::MOST_BYTES;
 use content::limits::MOST_LINES;
 use judge::judge;
@@ -19,9 +20,6 @@ ghost use Rattle.sieve.specs.Lines.{breakBytes, joined};
 ghost use Rattle.sieve.specs.Writing.{handed};
 ghost use Rattle.writer.specs.Handing.{lineAt, outsideAs, firstOutside, Inside, measured, breakIf};
 ghost use Rattle.writer.specs.Writing.{IsWritten, Found, Joined, Accepted};
-
-// Two numbers for each of 34 lines.
-const LIST_SIZE: usize = 68;
 
 // The line that entry i of a list, counted from 0, gives of a text.
 fn handed_line<'a, 'b>(text: &'a [u8], list: &'b [u16], i: usize) -> &'a [u8]

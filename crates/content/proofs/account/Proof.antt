@@ -1,3 +1,4 @@
+-- `content::account` meets its contract: the findings on an account line, each after those before it. Assumes nothing.
 use Rattle.content.proofs.Firsts.{then}
 use borrow.Author.Needs.{needs}
 use Rattle.content.proofs.account.Statement.{statement}

@@ -1,3 +1,4 @@
+-- `content::address_text` meets its contract: a line of an address is asked for, kept empty or limited by what its address is. Assumes nothing.
 use Rattle.content.proofs.Firsts.{then}
 use borrow.Author.Needs.{needs}
 use Rattle.content.proofs.address_text.Statement.{statement}

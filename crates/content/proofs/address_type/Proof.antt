@@ -1,3 +1,4 @@
+-- `content::address_type` meets its contract: the findings on the type of an address, each after those before it. Assumes nothing.
 use Rattle.content.proofs.Firsts.{then}
 use borrow.Author.Needs.{needs}
 use Rattle.content.proofs.address_type.Statement.{statement}

@@ -1,3 +1,4 @@
+-- `content::billing` meets its contract: the findings on the billing information, each after those before it. Assumes nothing.
 use Rattle.content.proofs.Firsts.{then}
 use borrow.Author.Needs.{needs}
 use Rattle.content.proofs.billing.Statement.{statement}

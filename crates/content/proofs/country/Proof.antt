@@ -1,3 +1,4 @@
+-- `content::country` meets its contract: the findings on a country, each after those before it. Assumes nothing.
 use Rattle.content.proofs.Firsts.{then}
 use borrow.Author.Needs.{needs}
 use Rattle.content.proofs.country.Statement.{statement}

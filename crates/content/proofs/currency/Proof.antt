@@ -1,3 +1,4 @@
+-- `content::currency` meets its contract: the findings on the currency, each after those before it. Assumes nothing.
 use Rattle.content.proofs.Firsts.{then}
 use borrow.Author.Needs.{needs}
 use Rattle.content.proofs.currency.Statement.{statement}

@@ -1,3 +1,4 @@
+-- `content::fixed` meets its contract: a line is the fixed text that stands there. Assumes nothing.
 use borrow.Author.Needs.{needs}
 use Rattle.content.proofs.fixed.Statement.{statement}
 use Rattle.content.proofs.fixed.Tie as tie

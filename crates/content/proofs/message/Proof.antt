@@ -1,3 +1,4 @@
+-- `content::message` meets its contract: the finding on the message. Assumes nothing.
 use borrow.Author.Needs.{needs}
 use Rattle.content.proofs.message.Statement.{statement}
 use Rattle.content.proofs.message.Tie as tie

@@ -1,3 +1,4 @@
+-- `content::procedure` meets its contract: the findings on a procedure, each after those before it. Assumes nothing.
 use Rattle.content.proofs.Firsts.{then}
 use borrow.Author.Needs.{needs}
 use Rattle.content.proofs.procedure.Statement.{statement}

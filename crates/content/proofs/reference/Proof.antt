@@ -1,3 +1,4 @@
+-- `content::reference` meets its contract: the findings on a reference, by its type. Assumes nothing.
 use Rattle.content.proofs.Firsts.{then}
 use borrow.Author.Needs.{needs}
 use Rattle.content.proofs.reference.Statement.{statement}

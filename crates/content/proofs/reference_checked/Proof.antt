@@ -1,3 +1,4 @@
+-- `content::reference_checked` meets its contract: the check digits of a reference, by its type. Assumes nothing.
 use borrow.Author.Needs.{needs}
 use Rattle.content.proofs.reference_checked.Statement.{statement}
 use Rattle.content.proofs.reference_checked.Tie as tie

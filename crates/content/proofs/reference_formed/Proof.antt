@@ -1,3 +1,4 @@
+-- `content::reference_formed` meets its contract: the form of a reference, by its type. Assumes nothing.
 use borrow.Author.Needs.{needs}
 use Rattle.content.proofs.reference_formed.Statement.{statement}
 use Rattle.content.proofs.reference_formed.Tie as tie

@@ -1,3 +1,4 @@
+-- `content::reference_type` meets its contract: the finding on the type of a reference. Assumes nothing.
 use Rattle.content.proofs.Firsts.{then}
 use borrow.Author.Needs.{needs}
 use Rattle.content.proofs.reference_type.Statement.{statement}

@@ -1,3 +1,4 @@
+-- `content::rule` meets its contract: a finding stands unless one was made before. Assumes nothing.
 use Rattle.sieve.specs.Verdict.{first}
 use borrow.Author.Needs.{needs}
 use Rattle.content.proofs.rule.Statement.{statement}

@@ -1,3 +1,4 @@
+-- `judge::judge` meets its contract: each test either ends in the verdict or leaves the findings after it. Assumes nothing.
 use Rattle.judge.proofs.Stages.{refused-judged, no-bytes, too-many, bad-character, clean}
 use mathlib.Core.Path.{sym, _∙_}
 use borrow.Author.Needs.{needs}

@@ -1,3 +1,4 @@
+-- `judge::judge_breaks` meets its contract: breaks and line count either end in the verdict or leave the rules about lines. Assumes nothing.
 use Rattle.judge.proofs.Stages.{refused-judged, mixed, wrong-count, one-kind}
 use mathlib.Core.Path.{sym, _∙_}
 use borrow.Author.Needs.{needs}

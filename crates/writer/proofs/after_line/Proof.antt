@@ -1,3 +1,4 @@
+-- `writer::after_line` meets its contract: a break comes after a line if another line follows. Assumes nothing.
 use Rattle.writer.proofs.after_line.Statement.{statement}
 use Rattle.writer.proofs.after_line.Tie as tie
 

@@ -1,3 +1,4 @@
+-- `writer::first_outside` meets its contract: what was not found before is found among the places from here on. Assumes nothing.
 use Rattle.writer.proofs.Handing.{outsideFrom, outside-first, outside-here, outside-later, outside-none}
 use Rattle.writer.specs.Handing.{outsideAs, firstOutside}
 use mathlib.Core.Path.{_≡_, sym, ap, _∙_}

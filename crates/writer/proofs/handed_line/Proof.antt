@@ -1,3 +1,4 @@
+-- `writer::handed_line` meets its contract: the part of the text that an entry gives. Assumes nothing.
 use Rattle.writer.specs.Handing.{spanAt}
 use mathlib.Core.Path.{_≡_}
 use native.Mathlib.Omega.{arith}

@@ -1,3 +1,4 @@
+-- `writer::lay_lines` meets its contract: the front of the destination holds what is laid of the joined bytes, and the rest is still to come. Assumes nothing.
 use lib.Seq.{take-length}
 use borrow.Rule.Slice.PartMut.{putMid}
 use Rattle.writer.specs.Handing.{lineAt, breakIf}

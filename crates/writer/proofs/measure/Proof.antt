@@ -1,3 +1,4 @@
+-- `writer::measure` meets its contract: what lies before is clean, and its length with a break after each line is reckoned. Assumes nothing.
 use Rattle.writer.specs.declared.Measured.the-variants.{Length}
 use Rattle.writer.specs.Handing.{lineAt, measured}
 use Rattle.writer.proofs.Handing.{still, strayFrom, breaksAll, from-start, all-breaks, line-short, break-short, stray-is, stray-none, stray-within, stray-here, stray-later, length-here, none-left}

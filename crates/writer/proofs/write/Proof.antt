@@ -1,3 +1,4 @@
+-- `writer::write` meets its contract: list, count and places either end in a refusal or leave the findings after them. Assumes nothing.
 use Rattle.swiss.specs.Limits.{fewestLines, mostLines}
 use Rattle.sieve.proofs.Accepts.{within-both}
 use native.Mathlib.Omega.{arith}

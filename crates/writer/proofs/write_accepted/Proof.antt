@@ -1,3 +1,4 @@
+-- `writer::write_accepted` meets its contract: room is asked for last. Assumes nothing.
 use Rattle.writer.proofs.Writing.{too-short, room-for-all}
 use borrow.Author.Needs.{needs}
 use Rattle.writer.proofs.write_accepted.Statement.{statement}

@@ -1,3 +1,4 @@
+-- `writer::write_joined` meets its contract: the verdict on the joined bytes, which lie in a buffer. Assumes nothing.
 use Rattle.writer.specs.Writing.{bytes}
 use Rattle.swiss.specs.Swiss.{swiss}
 use Rattle.sieve.specs.Verdict.{verdict}

@@ -1,3 +1,4 @@
+-- `writer::write_lines` meets its contract: a stray break is refused, else the joined length is known. Assumes nothing.
 use mathlib.Core.Path.{sym, _∙_}
 use Rattle.writer.proofs.Writing.{none-stray, stray-found}
 use borrow.Author.Needs.{needs}
