@@ -254,8 +254,8 @@ def damaged_bills():
 
 def calls():
     """All calls, in the order in which they are stored."""
-    for some in (neighbours, reader_refusals, far_apart, lists_and_counts, rooms, places_in_the_text,
-                 stray_breaks, lengths, round_trips, damaged_bills):
+    for some in (neighbours, reader_refusals, far_apart, lists_and_counts, rooms,
+                 places_in_the_text, stray_breaks, lengths, round_trips, damaged_bills):
         yield from some()
 
 
