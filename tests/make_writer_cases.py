@@ -23,7 +23,7 @@ CRATE = TESTS.parent / 'crates' / 'writer_cases'
 MOST_INPUT = 524288  # the program holds no more
 MOST_NUMBERS = 70  # of a list, in the program
 MOST_ROOM = 1200  # of the program's destination
-MARK = b'\xAA'  # what the program fills its destination with
+MARK = b'\xFF'  # what the program fills its destination with: a byte that no bill holds
 
 
 class Call(NamedTuple):

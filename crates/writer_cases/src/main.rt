@@ -15,7 +15,7 @@ ghost use Prim.Native.Nat.{_+_, _≤_, _<_};
 ghost use lib.ListN.{length};
 
 // What the destination is filled with before the call: a byte that no bill holds.
-const MARK: u8 = 0xAA;
+const MARK: u8 = 0xFF;
 
 // The four numbers before the list.
 const HEAD_BYTES: usize = 8;
