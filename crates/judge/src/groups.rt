@@ -2,6 +2,11 @@
 use crate::places::line;
 use content::Finding;
 use content::limits;
+use content::limits::HOUSE_NUMBER_MOST;
+use content::limits::NAME_MOST;
+use content::limits::POSTCODE_MOST;
+use content::limits::STREET_MOST;
+use content::limits::TOWN_MOST;
 use content::rule;
 use digits::number;
 use sieve::Fault;
@@ -71,51 +76,11 @@ pub fn address(before: Finding, payload: &[u8], places: &[u16], n: usize, option
             let kind = line(payload, places, n);
             let absent = optional & (kind.len() == 0);
             let f = content::address_type(Finding::Kept, kind, n, absent);
-            let f = address_line(
-                f,
-                payload,
-                places,
-                n + 1,
-                absent,
-                !absent,
-                limits::NAME_MOST,
-            );
-            let f = address_line(
-                f,
-                payload,
-                places,
-                n + 2,
-                absent,
-                false,
-                limits::STREET_MOST,
-            );
-            let f = address_line(
-                f,
-                payload,
-                places,
-                n + 3,
-                absent,
-                false,
-                limits::HOUSE_NUMBER_MOST,
-            );
-            let f = address_line(
-                f,
-                payload,
-                places,
-                n + 4,
-                absent,
-                !absent,
-                limits::POSTCODE_MOST,
-            );
-            let f = address_line(
-                f,
-                payload,
-                places,
-                n + 5,
-                absent,
-                !absent,
-                limits::TOWN_MOST,
-            );
+            let f = address_line(f, payload, places, n + 1, absent, !absent, NAME_MOST);
+            let f = address_line(f, payload, places, n + 2, absent, false, STREET_MOST);
+            let f = address_line(f, payload, places, n + 3, absent, false, HOUSE_NUMBER_MOST);
+            let f = address_line(f, payload, places, n + 4, absent, !absent, POSTCODE_MOST);
+            let f = address_line(f, payload, places, n + 5, absent, !absent, TOWN_MOST);
             let last = n + 6;
             content::country(f, line(payload, places, last), last, absent)
         }
