@@ -4,7 +4,7 @@ use native.Mathlib.Omega.{arith}
 use mathlib.Core.Bool.{true, false, not, and-eq-true-iff}
 use mathlib.Core.List.{List, [], _∷_, _++_, map, List·Memᴰ, List·Memᴰ·head, List·Memᴰ·tail, List·Memᴰ·not-nil, List·Memᴰ·cases-cons}
 use mathlib.Core.Logic.{_⊎_, inl, inr}
-use mathlib.Core.Option.{map-eq-none-iff}
+use mathlib.Core.Option.{none, map-eq-none-iff}
 use mathlib.Core.Path.{_≡_, refl, sym, _∙_, ap}
 use lib.Dec.{eqb, leb, eqb·suc-zero}
 use lib.ListN.{length}
@@ -14,12 +14,12 @@ use Rattle.sieve.specs.declared.Break.the-variants.{Lf, CrLf}
 use Rattle.sieve.specs.Bytes.{Bytes, within}
 use Rattle.sieve.specs.Lines.{Next, gluedAfter, Bill, cut, breakBytes, afterBreaks, joined, written, linesOf, breaksOf, kind, sameBreak, billOf}
 use Rattle.sieve.specs.Rules.{Layout}
-use Rattle.sieve.specs.Verdict.{accepted, findings, first, verdict}
-use Rattle.sieve.specs.Lawful.{Lawful}
+use Rattle.sieve.specs.Verdict.{mixedBreaks, accepted, findings, first, verdict}
+use Rattle.sieve.specs.Lawful.{Clean, Lawful}
 use Rattle.sieve.specs.Keeps.{Keeps}
 use Rattle.sieve.specs.Demand.{Is, AcceptsExactly}
 use Rattle.sieve.proofs.Likeness.{like, like-itself}
-use Rattle.sieve.proofs.Cutting.{glued-cut, nexts, cut-joined}
+use Rattle.sieve.proofs.Cutting.{Each, glued-cut, nexts, cut-joined}
 use Rattle.sieve.proofs.Walking.{no-bad-place, texts, text-clean}
 use Rattle.sieve.proofs.Findings.{found-none, settled-accepts, verdict-is, Clear, clear, clear-first, all-unbroken, none-broken, none-such, such-none}
 
@@ -27,6 +27,17 @@ use Rattle.sieve.proofs.Findings.{found-none, settled-accepts, verdict-
 alike : (k : Break) (ns : List Next) → ((j : Break) → List·Memᴰ j (map (λ n. n .break) ns) → j ≡ k) → afterBreaks k (map (λ n. n .line) ns) ≡ gluedAfter ns
 alike k [] h = refl
 alike k (n ∷ ns) h = rw (h (n .break) (List·Memᴰ·head refl), alike k ns (λ j m. h j (List·Memᴰ·tail m)))
+
+-- where no break is unlike the first, all are like it, and the bytes are what the bill that they are read as is written as
+
+pub each-like : (p : Bytes) → mixedBreaks (breaksOf (cut p)) ≡ none → (j : Break) → List·Memᴰ j (breaksOf (cut p)) → j ≡ kind (breaksOf (cut p))
+each-like p h j m =
+    let k = kind (breaksOf (cut p)) in
+    like k j (such-none (λ i. not (sameBreak k i)) 1 (breaksOf (cut p)) (map-eq-none-iff _ _ .0 h) j m)
+
+pub unmixed-written : (p : Bytes) → mixedBreaks (breaksOf (cut p)) ≡ none → written (billOf p) ≡ p
+unfolding written billOf
+unmixed-written p h = ap (λ (t : Bytes). cut p .first ++ t) (alike (kind (breaksOf (cut p))) (cut p .rest) (each-like p h)) ∙ glued-cut p
 
 lines-back : (k : Break) (ls : List Bytes) → map (λ n. n .line) (nexts k ls) ≡ ls
 lines-back k [] = refl
@@ -40,26 +51,33 @@ breaks-back k (l ∷ ls) j m = go (List·Memᴰ·cases-cons m) (breaks-back k ls
     go (inl e) ih = e
     go (inr m) ih = ih m
 
+-- lines without CR and LF are read back from what they are written as
+pub clean-read-back : (b : Bill) → 2 ≤ length (b .lines) → Each Clean (b .lines) → billOf (written b) ≡ b
+unfolding written billOf
+clean-read-back b = go (b .lines)
+  where
+    go : (ls : List Bytes) → 2 ≤ length ls → Each Clean ls → billOf (joined (b .break) ls) ≡ record { lines = ls; break = b .break }
+    go [] two h = absurd (omega arith)
+    go (l ∷ []) two h = absurd (omega arith)
+    go (l ∷ m ∷ ls) two h = rw (cut-joined (b .break) l (m ∷ ls) h, lines-back (b .break) ls)
+
 not-empty : (k : Break) (l s : Bytes) → eqb (length (l ++ (breakBytes k ++ s))) 0 ≡ false
 not-empty k (x ∷ l) s = rw eqb·suc-zero
 not-empty Lf [] s = rw eqb·suc-zero
 not-empty CrLf [] s = rw eqb·suc-zero
 
-within-both : (lo hi n : ℕ) → within lo hi n ≡ true → (lo ≤ n) × (n ≤ hi)
+pub within-both : (lo hi n : ℕ) → within lo hi n ≡ true → (lo ≤ n) × (n ≤ hi)
 within-both lo hi n h = let (a, b) = and-eq-true-iff (leb lo n) _ .0 h in (leb-true _ _ a, leb-true _ _ b)
 
 module _ (L : Layout) (laws : (ls : List Bytes) → Lawful (L .width ls)) where
   sound : (p : Bytes) (n : ℕ) (k : Break) → verdict L p ≡ accepted n k → (b : Bill) × Is L p n k b
-  unfolding billOf written
+  unfolding billOf
   sound p n k h =
-      let c = cut p in
-      let ls = linesOf c in
-      let j = kind (breaksOf c) in
+      let ls = linesOf (cut p) in
       let (nothing, count, break) = settled-accepts (billOf p) (first (findings L p)) (sym (verdict-is L p) ∙ h) in
       let all = clear L p nothing in
       let (least, most) = within-both (L .fewest-lines) (L .most-lines) (length ls) (not-false _ (found-none _ _ (all .counted))) in
-      let unmixed = such-none (λ k. not (sameBreak j k)) 1 (breaksOf c) (map-eq-none-iff _ _ .0 (all .unmixed)) in
-      let same : joined j ls ≡ p = ap (λ (t : Bytes). c .first ++ t) (alike j (c .rest) (λ k m. like j k (unmixed k m))) ∙ glued-cut p in (
+      let same = unmixed-written p (all .unmixed) in (
         billOf p,
         record {
           keeps = record {
@@ -75,14 +93,10 @@ module _ (L : Layout) (laws : (ls : List Bytes) → Lawful (L .width ls)) where
         },
       )
 
-  -- what the bytes of a bill that keeps the rules come to
-  record Back (b : Bill) : Type 0 where
-    bill-is : billOf (written b) ≡ b
-    nothing-found : Clear L (written b)
-
   module _ (fewest : 2 ≤ L .fewest-lines) where
-    back : (k : Break) (ls : List Bytes) → Keeps L (record { lines = ls; break = k }) → Back (record { lines = ls; break = k })
-    unfolding written billOf
+    -- nothing is found in the bytes of a bill that keeps the rules
+    back : (k : Break) (ls : List Bytes) → Keeps L (record { lines = ls; break = k }) → Clear L (written (record { lines = ls; break = k }))
+    unfolding written
     back k [] h = let a = h .enough in absurd (omega arith)
     back k (l ∷ []) h = let a = h .enough in absurd (omega arith)
     back k (l ∷ m ∷ ls) h =
@@ -90,24 +104,21 @@ module _ (L : Layout) (laws : (ls : List Bytes) → Lawful (L .width ls)) where
         let e = cut-joined k l (m ∷ ls) (λ t i. text-clean (L .width all) (laws all) (h .text t i)) in
         let f = lines-back k ls in
         record {
-          bill-is = rw (e, f);
-          nothing-found = record {
-            some-bytes = rw (not-empty k l (m ++ afterBreaks k ls));
-            not-too-many = rw (le-ltb _ _ (h .fits));
-            good = rw (e, f, no-bad-place _ (laws all) k all (h .text));
-            unmixed = rw (e, none-such (λ j. not (sameBreak k j)) 1 (k ∷ map (λ n. n .break) (nexts k ls)) (λ j i. rw (breaks-back k (m ∷ ls) j i) (like-itself k)));
-            counted = rw (e, f, le-leb _ _ (h .enough), le-leb _ _ (h .not-too-many));
-            kept = rw (e, f) (none-broken (L .rules) all (h .unbroken));
-          };
+          some-bytes = rw (not-empty k l (m ++ afterBreaks k ls));
+          not-too-many = rw (le-ltb _ _ (h .fits));
+          good = rw (e, f, no-bad-place _ (laws all) k all (h .text));
+          unmixed = rw (e, none-such (λ j. not (sameBreak k j)) 1 (k ∷ map (λ n. n .break) (nexts k ls)) (λ j i. rw (breaks-back k (m ∷ ls) j i) (like-itself k)));
+          counted = rw (e, f, le-leb _ _ (h .enough), le-leb _ _ (h .not-too-many));
+          kept = rw (e, f) (none-broken (L .rules) all (h .unbroken));
         }
 
     -- a bill that keeps the rules is read back from what it is written as
     pub read-back : (b : Bill) → Keeps L b → billOf (written b) ≡ b
-    read-back b h = back (b .break) (b .lines) h .bill-is
+    read-back b h = clean-read-back b (omega (arith, h .enough)) (λ l m. text-clean (L .width (b .lines)) (laws (b .lines)) (h .text l m))
 
     pub accepts-exactly : AcceptsExactly L (verdict L)
     accepts-exactly = record {
       sound = sound;
-      complete = λ b h. let r = back (b .break) (b .lines) h in verdict-is L (written b) ∙ rw (r .bill-is, clear-first L (written b) (r .nothing-found));
+      complete = λ b h. verdict-is L (written b) ∙ rw (read-back b h, clear-first L (written b) (back (b .break) (b .lines) h));
       unique = λ b c h g e. sym (read-back b h) ∙ ap billOf e ∙ read-back c g;
     }

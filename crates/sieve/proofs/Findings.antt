@@ -7,7 +7,7 @@ use mathlib.Core.List.{List, [], _∷_, _++_, map, List·Memᴰ, List·Memᴰ·h
 use mathlib.Core.Logic.{_⊎_, inl, inr}
 use mathlib.Core.Option.{Option, some, none, Option·none-ne-some}
 use mathlib.Core.Path.{_≡_, refl, sym, _∙_, ap}
-use lib.ListN.{length, getD}
+use lib.ListN.{length, getD, drop}
 use Rattle.sieve.specs.declared.Break.{Break}
 use Rattle.sieve.specs.Bytes.{Bytes, firstSuch}
 use Rattle.sieve.specs.Lines.{Bill, cut, linesOf, breaksOf, billOf}
@@ -26,10 +26,24 @@ found-some false q r h = absurd (Option·none-ne-some r h)
 
 -- the first of a list
 
-pub first-none : (o : Option Refusal) (os : List (Option Refusal)) → first (o ∷ os) ≡ none → (o ≡ none) × (first os ≡ none)
+-- where nothing is found, each is none, and nothing is found further on
+pub each-none : (os : List (Option Refusal)) → first os ≡ none → (i : ℕ) → getD os i none ≡ none
 unfolding first
-first-none none os h = (refl, h)
-first-none (some r) os h = absurd (Option·none-ne-some r (sym h))
+each-none [] h i = refl
+each-none (none ∷ os) h zero = refl
+each-none (none ∷ os) h (suc i) = each-none os h i
+each-none (some r ∷ os) h i = absurd (Option·none-ne-some r (sym h))
+
+pub none-further : (os : List (Option Refusal)) (n : ℕ) → first os ≡ none → first (drop n os) ≡ none
+unfolding first
+none-further os zero h = h
+none-further [] (suc n) h = refl
+none-further (none ∷ os) (suc n) h = none-further os n h
+none-further (some r ∷ os) (suc n) h = absurd (Option·none-ne-some r (sym h))
+
+pub first-nil : first [] ≡ none
+unfolding first
+first-nil = refl
 
 pub none-first : (o : Option Refusal) (os : List (Option Refusal)) → o ≡ none → first os ≡ none → first (o ∷ os) ≡ none
 unfolding first
@@ -58,22 +72,11 @@ pub record Clear (L : Layout) (p : Bytes) : Type 0 where
   pub counted : lineCount L (linesOf (cut p)) ≡ none
   pub kept : first (map (aboutLines (linesOf (cut p))) (L .rules)) ≡ none
 
-five : (a b c d e : Option Refusal) (os : List (Option Refusal)) → first (a ∷ b ∷ c ∷ d ∷ e ∷ os) ≡ none
-    → (a ≡ none) × (b ≡ none) × (c ≡ none) × (d ≡ none) × (e ≡ none) × (first os ≡ none)
-five a b c d e os h =
-    let (a′, i) = first-none a (b ∷ c ∷ d ∷ e ∷ os) h in
-    let (b′, j) = first-none b (c ∷ d ∷ e ∷ os) i in
-    let (c′, k) = first-none c (d ∷ e ∷ os) j in
-    let (d′, l) = first-none d (e ∷ os) k in
-    let (e′, m) = first-none e os l in
-    (a′, b′, c′, d′, e′, m)
-
 pub clear : (L : Layout) (p : Bytes) → first (findings L p) ≡ none → Clear L p
 unfolding findings
 clear L p h =
-    let ls = linesOf (cut p) in
-    let (a, b, c, d, e, k) = five (noBytes p) (tooManyBytes L p) (badCharacter L p ls) (mixedBreaks (breaksOf (cut p))) (lineCount L ls) (map (aboutLines ls) (L .rules)) h in
-    record { some-bytes = a; not-too-many = b; good = c; unmixed = d; counted = e; kept = k }
+    let none-at = each-none (findings L p) h in
+    record { some-bytes = none-at 0; not-too-many = none-at 1; good = none-at 2; unmixed = none-at 3; counted = none-at 4; kept = none-further (findings L p) 5 h }
 
 pub clear-first : (L : Layout) (p : Bytes) → Clear L p → first (findings L p) ≡ none
 unfolding findings
@@ -109,11 +112,11 @@ Unbroken rs ls = (r : Rule) → List·Memᴰ r rs → r .broken ls ≡ false
 
 pub all-unbroken : (rs : List Rule) (ls : List Bytes) → first (map (aboutLines ls) rs) ≡ none → Unbroken rs ls
 all-unbroken [] ls h r m = absurd (List·Memᴰ·not-nil m)
-all-unbroken (q ∷ rs) ls h r m = go (first-none (aboutLines ls q) (map (aboutLines ls) rs) h) (all-unbroken rs ls) (List·Memᴰ·cases-cons m)
+all-unbroken (q ∷ rs) ls h r m = go (all-unbroken rs ls (none-further (map (aboutLines ls) (q ∷ rs)) 1 h)) (List·Memᴰ·cases-cons m)
   where
-    go : (aboutLines ls q ≡ none) × (first (map (aboutLines ls) rs) ≡ none) → (first (map (aboutLines ls) rs) ≡ none → Unbroken rs ls) → (r ≡ q) ⊎ List·Memᴰ r rs → r .broken ls ≡ false
-    go (e, f) ih (inl s) = rw s (found-none (q .broken ls) _ e)
-    go (e, f) ih (inr i) = ih f r i
+    go : Unbroken rs ls → (r ≡ q) ⊎ List·Memᴰ r rs → r .broken ls ≡ false
+    go ih (inl s) = rw s (found-none (q .broken ls) _ (each-none (map (aboutLines ls) (q ∷ rs)) h 0))
+    go ih (inr i) = ih r i
 
 pub none-broken : (rs : List Rule) (ls : List Bytes) → Unbroken rs ls → first (map (aboutLines ls) rs) ≡ none
 unfolding first

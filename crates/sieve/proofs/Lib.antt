@@ -9,3 +9,6 @@ pub mod Earliest
 pub mod Placing
 pub mod DemandThree
 pub mod PaperLosesNothing
+pub mod ReaderPromises
+pub mod Strays
+pub mod WriterPromises

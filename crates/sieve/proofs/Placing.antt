@@ -13,7 +13,7 @@ use Rattle.sieve.specs.Rules.{Layout}
 use Rattle.sieve.specs.Places.{entryNumbers, Placed, placed, entries, placesOf, listSize}
 use Rattle.sieve.specs.Writing.{Span, spans, part, handed}
 
-abbrev span : Placed → Span
+abbrev pub span : Placed → Span
 span l = record { start = l .start; bytes = length (l .text) }
 
 pub entries-length : (n end : ℕ) (ls : List Placed) → length (entries n end ls) ≡ 2 * n
@@ -22,7 +22,7 @@ entries-length zero end ls = refl
 entries-length (suc n) end [] = omega (arith, entries-length n end [])
 entries-length (suc n) end (l ∷ ls) = omega (arith, entries-length n end ls)
 
-spans-of : (n end : ℕ) (ls : List Placed) → length ls ≤ n → spans (length ls) (entries n end ls) ≡ map span ls
+pub spans-of : (n end : ℕ) (ls : List Placed) → length ls ≤ n → spans (length ls) (entries n end ls) ≡ map span ls
 unfolding spans entries
 spans-of n end [] h = refl
 spans-of zero end (l ∷ ls) h = absurd (not-suc-le-zero h)
@@ -39,7 +39,7 @@ absent (suc n) end (l ∷ ls) h =
     let fewer : suc n - suc (length ls) ≡ n - length ls = omega arith in
     rw (twice, fewer) (absent n end ls (le-of-suc-le-suc h))
 
-length-placed : (at : ℕ) (k : Break) (ls : List Bytes) → length (placed at k ls) ≡ length ls
+pub length-placed : (at : ℕ) (k : Break) (ls : List Bytes) → length (placed at k ls) ≡ length ls
 unfolding placed
 length-placed at k [] = refl
 length-placed at k (l ∷ ls) = ap suc (length-placed _ k ls)

@@ -1,6 +1,6 @@
 -- The Swiss bill, edition 2.4: its lines and its rules, in the order of the sieve. Assumes nothing.
 use Prim.Native.Nat.{ℕ, _+_}
-use mathlib.Core.Bool.{Bool, cond, true, Bool·beq, _&&_, _||_, not}
+use mathlib.Core.Bool.{Bool, cond, true, _&&_, _||_, not}
 use mathlib.Core.List.{List, [], _∷_, flatten}
 use lib.Dec.{ltb}
 use lib.ListN.{take, drop}
@@ -73,7 +73,7 @@ qrIban ls = within firstQrIid lastQrIid (number 0 (take 5 (drop 4 (line 4 ls))))
 
 -- QRR stands exactly with a QR-IBAN, and only with CHF
 abbrev pub paired : When
-paired ls = Bool·beq (is 28 qrReference ls) (qrIban ls) && (not (is 28 qrReference ls) || is 20 francs ls)
+paired ls = cond (is 28 qrReference ls) (qrIban ls && is 20 francs ls) (not (qrIban ls))
 
 abbrev pub pairing : Rule
 pairing = record { number = 12; line = 28; broken = unless paired }

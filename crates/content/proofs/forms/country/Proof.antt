@@ -1,0 +1,12 @@
+use borrow.Author.Needs.{needs}
+use Rattle.content.proofs.forms.country.Statement.{statement}
+use Rattle.content.proofs.forms.country.Tie as tie
+
+every-requires : tie.Need-every-requires
+every-requires c κs = search needs
+
+returns : tie.Need-returns
+returns c = rw (c .every .ensures)
+
+pub country-spec : {M : Type 1} → statement M
+country-spec = tie.close (tie.spec every-requires returns)

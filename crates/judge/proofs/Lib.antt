@@ -1,0 +1,4 @@
+pub mod Parts
+pub mod Listing
+pub mod Listed
+pub mod Stages

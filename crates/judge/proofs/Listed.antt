@@ -1,0 +1,75 @@
+-- What the list of places says of each line: where it lies in the payload. Assumes nothing.
+use Prim.Native.Nat.{ℕ, zero, suc, _+_, _-_, _*_, _≤_, _<_}
+use native.Mathlib.Nat.{le-of-suc-le-suc, not-suc-le-zero}
+use native.Mathlib.Omega.{arith}
+use mathlib.Core.List.{List, [], _∷_, _++_, map}
+use mathlib.Core.Path.{_≡_, refl, sym, ap, _∙_}
+use lib.ListN.{length, getD, take, drop, length-append, List·getD-map}
+use Rattle.sieve.specs.Bytes.{Bytes}
+use Rattle.sieve.specs.Lines.{breakBytes, Next, gluedAfter, cut, linesOf}
+use Rattle.sieve.specs.Places.{Placed, entries}
+use Rattle.sieve.specs.Rules.{line}
+use Rattle.sieve.proofs.Cutting.{glued-cut}
+use Rattle.sieve.proofs.Placing.{entries-length}
+use Rattle.text.specs.LinesIn.{linesFrom, linesIn, lineOf}
+use Rattle.text.proofs.LinesLie.{absent, line-lies}
+use Rattle.judge.specs.Listed.{listed}
+
+pub listed-length : (p : Bytes) → length (listed p) ≡ 68
+unfolding listed
+listed-length p = entries-length 34 (length p) (linesIn p)
+
+-- the two numbers of an entry
+entry-at : (m i end : ℕ) (ls : List Placed) → i < m → let l = getD ls i (record { start = end; text = [] }) in
+    (getD (entries m end ls) (2 * i) 0 ≡ l .start) × (getD (entries m end ls) (2 * i + 1) 0 ≡ length (l .text))
+unfolding entries
+entry-at zero i end ls h = absurd (not-suc-le-zero h)
+entry-at (suc m) zero end [] h = (refl, refl)
+entry-at (suc m) zero end (l ∷ ls) h = (refl, refl)
+entry-at (suc m) (suc i) end [] h =
+    let twice : 2 * suc i ≡ suc (suc (2 * i)) = omega arith in
+    let more : suc (suc (2 * i)) + 1 ≡ suc (suc (2 * i + 1)) = omega arith in
+    let (a, b) = entry-at m i end [] (le-of-suc-le-suc h) in
+    (rw twice a, rw (twice, more) b)
+entry-at (suc m) (suc i) end (l ∷ ls) h =
+    let twice : 2 * suc i ≡ suc (suc (2 * i)) = omega arith in
+    let more : suc (suc (2 * i)) + 1 ≡ suc (suc (2 * i + 1)) = omega arith in
+    let (a, b) = entry-at m i end ls (le-of-suc-le-suc h) in
+    (rw twice a, rw (twice, more) b)
+
+texts : (at : ℕ) (l : Bytes) (ns : List Next) → map (λ m. m .text) (linesFrom at l ns) ≡ l ∷ map (λ m. m .line) ns
+unfolding linesFrom
+texts at l [] = refl
+texts at l (n ∷ ns) = ap (λ (t : List Bytes). l ∷ t) (texts _ (n .line) ns)
+
+inside : (at : ℕ) (l : Bytes) (ns : List Next) (i end : ℕ) → at + length (l ++ gluedAfter ns) ≡ end → let m = getD (linesFrom at l ns) i (record { start = end; text = [] }) in m .start + length (m .text) ≤ end
+unfolding linesFrom
+inside at l [] zero end h = omega (arith, length-append l [])
+inside at l [] (suc i) end h = omega arith
+inside at l (n ∷ ns) zero end h = omega (arith, length-append l (gluedAfter (n ∷ ns)))
+inside at l (n ∷ ns) (suc i) end h =
+    inside _ (n .line) ns i end (omega (arith, length-append l (gluedAfter (n ∷ ns)), length-append (breakBytes (n .break)) (n .line ++ gluedAfter ns)))
+
+-- where the list says that line n lies
+pub record LineAtPlace (p : Bytes) (n start bytes : ℕ) : Type 0 where
+  pub within : start + bytes ≤ length p
+  pub is : take bytes (drop start p) ≡ line n (linesOf (cut p))
+
+pub listed-line : (p : Bytes) (n : ℕ) → 1 ≤ n → n ≤ 34 → LineAtPlace p n (getD (listed p) (2 * n - 2) 0) (getD (listed p) (2 * n - 1) 0)
+unfolding listed linesIn lineOf
+listed-line p n h k =
+    let i = n - 1 in
+    let l = getD (linesIn p) i (absent p) in
+    let (a, b) = entry-at 34 i (length p) (linesIn p) (omega arith) in
+    let start : 2 * n - 2 ≡ 2 * i = omega arith in
+    let bytes : 2 * n - 1 ≡ 2 * i + 1 = omega arith in
+    let text : l .text ≡ line n (linesOf (cut p)) = sym (List·getD-map (λ m. m .text) (linesIn p) i (absent p)) ∙ ap (λ (t : List Bytes). getD t i []) (texts 0 (cut p .first) (cut p .rest)) in
+    rw (start, bytes, a, b)
+    (record {
+      within = inside 0 (cut p .first) (cut p .rest) i (length p) (omega (arith, ap length (glued-cut p)));
+      is = line-lies p n ∙ text;
+    })
+
+-- the part from its start to its end is the line
+pub part-is-line : {p : Bytes} {n start bytes : ℕ} → LineAtPlace p n start bytes → take (start + bytes - start) (drop start p) ≡ line n (linesOf (cut p))
+part-is-line {start = start} {bytes = bytes} l = let e : start + bytes - start ≡ bytes = omega arith in rw e (l .is)

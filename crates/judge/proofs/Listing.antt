@@ -1,0 +1,75 @@
+-- The list of places, line by line. Assumes nothing.
+use Prim.Native.Nat.{ℕ, zero, suc, _+_, _-_, _*_, _≤_, _<_}
+use native.Mathlib.Numerals.{add-one}
+use native.Mathlib.Omega.{arith}
+use mathlib.Core.List.{List, [], _∷_, _++_, append-nil, append-assoc}
+use mathlib.Core.Path.{_≡_, refl, sym, ap, _∙_}
+use lib.ListN.{length, take, drop, set, length-set, length-drop, length-append}
+use lib.Seq.{take-suc-set, drop-length, take-all}
+use Rattle.sieve.specs.Bytes.{Bytes}
+use Rattle.sieve.specs.Lines.{breakBytes, cut}
+use Rattle.sieve.specs.Places.{entries}
+use Rattle.sieve.proofs.Cutting.{glued-cut}
+use Rattle.text.specs.declared.LineAt.{LineAt}
+use Rattle.text.specs.Results.{IsLineAt}
+use Rattle.text.specs.LinesIn.{linesFrom}
+use Rattle.text.proofs.LinesAt.{Onward, nothing, a-break, onward}
+use Rattle.text.proofs.LinesLie.{linesAt}
+use Rattle.judge.specs.Listed.{listed}
+
+-- past the end there are only absent lines, which look like one empty line there
+at-end : (p : Bytes) (n : ℕ) → entries n (length p) (linesAt p (length p)) ≡ entries n (length p) []
+unfolding entries linesFrom cut
+at-end p zero = refl
+at-end p (suc n) = rw (drop-length p)
+
+-- a line with nothing after it ends at the end
+last-ends : (p : Bytes) (at : ℕ) → at ≤ length p → cut (drop at p) .rest ≡ [] → at + length (cut (drop at p) .first) ≡ length p
+last-ends p at h e =
+    let g : cut (drop at p) .first ++ [] ≡ drop at p = rw e at (glued-cut (drop at p)) in
+    omega (arith, ap length g, length-append (cut (drop at p) .first) [], length-drop at p)
+
+-- an entry for the line at a place, and then the entries of those from the next place on
+pub one-entry : (p : Bytes) (n at : ℕ) (r : LineAt) → IsLineAt p at r → at ≤ length p
+    → entries (suc n) (length p) (linesAt p at) ≡ at ∷ (r .end - at) ∷ entries n (length p) (linesAt p (r .next))
+unfolding entries linesFrom
+one-entry p n at r is h = go (onward p at r is)
+  where
+    bytes : r .end - at ≡ length (cut (drop at p) .first)
+    bytes = omega (arith, is .end)
+
+    go : Onward p at r → entries (suc n) (length p) (linesAt p at) ≡ at ∷ (r .end - at) ∷ entries n (length p) (linesAt p (r .next))
+    go (nothing e f) =
+        let q : r .next ≡ length p = e ∙ is .end ∙ last-ends p at h f in
+        rw (f, q, bytes) (ap (λ (t : List ℕ). at ∷ length (cut (drop at p) .first) ∷ t) (sym (at-end p n)))
+    go (a-break k e f) =
+        let q : at + length (cut (drop at p) .first) + length (breakBytes k) ≡ r .next = omega (arith, is .end) in
+        rw (f, q, bytes)
+
+-- two numbers more
+pub two-more : (l : List ℕ) (i a b : ℕ) → i + 1 < length l → take (i + 2) (set (set l i a) (i + 1) b) ≡ take i l ++ (a ∷ b ∷ [])
+two-more l i a b h =
+    let n : i + 2 ≡ suc (i + 1) = omega arith in
+    let e = take-suc-set (set l i a) (i + 1) b (rw length-set h) in
+    let f = take-suc-set l i a (omega arith) in
+    rw n (e ∙ rw (add-one, f) (append-assoc (take i l) (a ∷ []) (b ∷ [])))
+
+-- the list while it is filled: the numbers of n lines, and what is still to come from place `at` on
+abbrev pub Filled : Bytes → List ℕ → ℕ → ℕ → Type 0
+Filled p l at n = take (2 * n) l ++ entries (34 - n) (length p) (linesAt p at) ≡ listed p
+
+pub filled-more : (p : Bytes) (l : List ℕ) (at n : ℕ) (r : LineAt) → IsLineAt p at r → at ≤ length p → n < 34 → length l ≡ 68 → Filled p l at n
+    → Filled p (set (set l (2 * n) at) (2 * n + 1) (r .end - at)) (r .next) (n + 1)
+filled-more p l at n r is h k size e =
+    let two : 2 * (n + 1) ≡ 2 * n + 2 = omega arith in
+    let m : suc (34 - (n + 1)) ≡ 34 - n = omega arith in
+    let rest = entries (34 - (n + 1)) (length p) (linesAt p (r .next)) in
+    let more : entries (34 - n) (length p) (linesAt p at) ≡ at ∷ (r .end - at) ∷ rest = rw (← m) (one-entry p (34 - (n + 1)) at r is h) in
+    rw (two, two-more l (2 * n) at (r .end - at) (omega arith), append-assoc (take (2 * n) l) (at ∷ (r .end - at) ∷ []) rest)
+    (ap (λ (t : List ℕ). take (2 * n) l ++ t) (sym more) ∙ e)
+
+pub filled-all : (p : Bytes) (l : List ℕ) (at n : ℕ) → 34 ≤ n → n ≤ 34 → length l ≡ 68 → Filled p l at n → l ≡ listed p
+unfolding entries
+filled-all p l at n h k size e =
+    let q : n ≡ 34 = omega arith in
+    sym (take-all 68 l (omega arith)) ∙ sym (append-nil (take 68 l)) ∙ rw q at e

@@ -1,0 +1,111 @@
+use Rattle.sieve.specs.Rules.{line}
+use Rattle.sieve.specs.Lines.{cut, linesOf}
+use Rattle.sieve.specs.Characters.{characters}
+use Rattle.judge.proofs.Parts.{characters-few, line-within}
+use native.Mathlib.Omega.{arith}
+use mathlib.Core.Path.{sym, ap, _∙_}
+use Rattle.content.proofs.Firsts.{then, first-some}
+use borrow.Author.Needs.{needs}
+use Rattle.judge.proofs.groups.pairs.Statement.{statement}
+use Rattle.judge.proofs.groups.pairs.Tie as tie
+
+enum-known-before : tie.Need-enum-known-before
+enum-known-before c = search needs
+
+enum-told : tie.Need-enum-told
+enum-told c = search needs
+
+line-requires : tie.Need-line-requires
+line-requires c κs = search needs
+
+iid-requires : tie.Need-iid-requires
+iid-requires c κs = search needs
+
+line-requires-2 : tie.Need-line-requires-2
+line-requires-2 c κs = search needs
+
+slice-aggregate-same : tie.Need-slice-aggregate-same
+slice-aggregate-same c = search needs
+
+same-requires : tie.Need-same-requires
+same-requires c κs = search needs
+
+line-requires-3 : tie.Need-line-requires-3
+line-requires-3 c κs = search needs
+
+slice-aggregate-same-2 : tie.Need-slice-aggregate-same-2
+slice-aggregate-same-2 c = search needs
+
+same-requires-2 : tie.Need-same-requires-2
+same-requires-2 c κs = search needs
+
+paired-requires : tie.Need-paired-requires
+paired-requires c κs = search needs
+
+rule-requires : tie.Need-rule-requires
+rule-requires c κs = search needs
+
+line-requires-4 : tie.Need-line-requires-4
+line-requires-4 c κs = search needs
+
+characters-requires : tie.Need-characters-requires
+characters-requires c κs = search needs
+
+line-requires-5 : tie.Need-line-requires-5
+line-requires-5 c κs = search needs
+
+characters-requires-2 : tie.Need-characters-requires-2
+characters-requires-2 c κs = search needs
+
+add-rule : tie.Need-add-rule
+add-rule c =
+    let p = c .before .before .before .before .before .before .before .before .before .before .before .before .before .before .before .before .before .before .args .payload .now in
+    let a = c .before .before .characters .ensures in
+    let b = c .characters2 .ensures in
+    omega (
+      arith,
+      c .before .before .before .before .before .before .before .before .before .before .before .before .before .before .before .before .before .before .pre .1,
+      characters-few (line 30 (linesOf (cut p))),
+      line-within p 30,
+      characters-few (line 32 (linesOf (cut p))),
+      line-within p 32,
+      a ∙ ap characters (c .before .before .before .line4 .ensures),
+      b ∙ ap characters (c .before .line5 .ensures),
+    )
+
+rule-requires-2 : tie.Need-rule-requires-2
+rule-requires-2 c κs = search needs
+
+returns : tie.Need-returns
+returns c = rw (c .before .before2 .given .1) (sym (first-some _ _))
+
+returns-2 : tie.Need-returns-2
+returns-2 c =
+    rw (c .before .before .before .before .before .before .before .before .before .before .before .before .before .before .before .enum-told .given .1)
+    (then _ _ (rw (c .before .before .before .before .before .before .paired .ensures, c .before .before .before .before .before .before .before .before .before .before .same .ensures, c .before .before .before .before .before .before .before .same2 .ensures, c .before .before .before .before .before .before .before .before .before .before .before .before .before .iid .ensures, c .before .before .before .before .before .before .before .before .before .before .before .before .before .before .line .ensures, c .before .before .before .before .before .before .before .before .before .before .before .before .line2 .ensures, c .before .before .before .before .before .before .before .before .before .line3 .ensures) at (c .before .before .before .before .before .rule .ensures))
+    (rw (c .before .before .before .characters .ensures, c .before .characters2 .ensures, c .before .before .before .before .line4 .ensures, c .before .before .line5 .ensures) at (c .rule2 .ensures)))
+
+pub pairs-spec : {M : Type 1} → statement M
+pairs-spec =
+    tie.close
+    (tie.spec
+    enum-known-before
+    enum-told
+    line-requires
+    iid-requires
+    line-requires-2
+    slice-aggregate-same
+    same-requires
+    line-requires-3
+    slice-aggregate-same-2
+    same-requires-2
+    paired-requires
+    rule-requires
+    line-requires-4
+    characters-requires
+    line-requires-5
+    characters-requires-2
+    add-rule
+    rule-requires-2
+    returns
+    returns-2)

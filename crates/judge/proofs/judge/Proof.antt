@@ -1,0 +1,57 @@
+-- `judge::judge` meets its contract: each test either ends in the verdict or leaves the findings after it. Assumes nothing.
+use Rattle.judge.proofs.Stages.{refused-judged, no-bytes, too-many, bad-character, clean}
+use mathlib.Core.Path.{sym, _∙_}
+use borrow.Author.Needs.{needs}
+use Rattle.judge.proofs.judge.Statement.{statement}
+use Rattle.judge.proofs.judge.Tie as tie
+
+refused-requires : tie.Need-refused-requires
+refused-requires c κs = search needs
+
+returns : tie.Need-returns
+returns c = refused-judged (c .before .before .before .args .payload .now) _ _ (c .refused .ensures) (no-bytes (c .before .before .before .args .payload .now) (c .before .if1 .taken))
+
+refused-requires-2 : tie.Need-refused-requires-2
+refused-requires-2 c κs = search needs
+
+returns-2 : tie.Need-returns-2
+returns-2 c = refused-judged (c .before .before .before .before .args .payload .now) _ _ (c .refused2 .ensures) (too-many (c .before .before .before .before .args .payload .now) (c .before .before .if1 .left) (c .before .if2 .taken))
+
+walk-requires : tie.Need-walk-requires
+walk-requires c κs = search needs
+
+enum-known-i : tie.Need-enum-known-i
+enum-known-i c = search needs
+
+refused-requires-3 : tie.Need-refused-requires-3
+refused-requires-3 c κs = search needs
+
+enum-told : tie.Need-enum-told
+enum-told c = search needs
+
+judge-breaks-requires : tie.Need-judge-breaks-requires
+judge-breaks-requires c κs = clean (c .before .before .before .before .before .before .args .payload .now) (c .before .before .before .before .if1 .left) (c .before .before .before .if2 .left) (sym (c .enum-told .given .1) ∙ c .before .before .walk .ensures)
+
+returns-3 : tie.Need-returns-3
+returns-3 c =
+    refused-judged (c .before .before .before .before .before .before .before .before .args .payload .now) _ _ (c .refused3 .ensures)
+    (bad-character (c .before .before .before .before .before .before .before .before .args .payload .now) (c .before .before .before .before .before .before .if1 .left) (c .before .before .before .before .before .if2 .left) _ _ (sym (c .before .before .i .given .1) ∙ c .before .before .before .before .walk .ensures))
+
+returns-4 : tie.Need-returns-4
+returns-4 c = search needs
+
+pub judge-spec : {M : Type 1} → statement M
+judge-spec =
+    tie.close
+    (tie.spec
+    refused-requires
+    returns
+    refused-requires-2
+    returns-2
+    walk-requires
+    enum-known-i
+    refused-requires-3
+    enum-told
+    judge-breaks-requires
+    returns-3
+    returns-4)

@@ -1,0 +1,81 @@
+// The verdict on a payload, in code.
+mod groups;
+mod places;
+
+use content::Finding;
+use content::limits::FEWEST_LINES;
+use content::limits::MOST_BYTES;
+use content::limits::MOST_LINES;
+use sieve::Answer;
+use sieve::Break;
+use sieve::Fault;
+use text::Parted;
+use text::Walked;
+use text::breaks;
+use text::walk;
+ghost use mathlib.Core.Path.{_≡_};
+ghost use lib.ListN.{replicate};
+ghost use Rattle.judge.specs.Stages.{IsJudged, Characters, OneKind};
+
+// What a payload is found to be, and where its lines lie; where it is refused, 68 times 0.
+pub struct Judged {
+    pub answer: Answer,
+    pub places: [u16; 68],
+}
+
+fn refused(fault: Fault) -> Judged
+    ensures { λ r. ⌜ (r .answer ≡ Answer.Refused fault) × (r .places ≡ replicate 68 0) ⌝ }
+{
+    Judged {
+        answer: Answer::Refused(fault),
+        places: [0; 68],
+    }
+}
+
+// The rules about lines, of a payload of so many lines that are parted by one kind of break.
+fn judge_lines(payload: &[u8], k: Break, count: usize) -> Judged
+    requires { ⌜ OneKind (now payload) k count ⌝ }
+    ensures { λ r. ⌜ IsJudged (now (payload .entry)) r ⌝ }
+{
+    let places = places::list_places(payload);
+    match groups::rules(payload, &places, count) {
+        Finding::Broken(f) => refused(f),
+        Finding::Kept => Judged {
+            answer: Answer::Accepted(count, k),
+            places,
+        },
+    }
+}
+
+// Rules 4 and 5, and then those about lines.
+fn judge_breaks(payload: &[u8]) -> Judged
+    requires { ⌜ Characters (now payload) ⌝ }
+    ensures { λ r. ⌜ IsJudged (now (payload .entry)) r ⌝ }
+{
+    match breaks(payload) {
+        Parted::Unlike(i) => refused(Fault::MixedBreaks(i)),
+        Parted::Alike(k, n) => {
+            if (FEWEST_LINES <= n) & (n <= MOST_LINES) {
+                judge_lines(payload, k, n)
+            } else {
+                refused(Fault::LineCount(n))
+            }
+        }
+    }
+}
+
+// The verdict on any bytes, with the places of an accepted payload's lines.
+pub fn judge(payload: &[u8]) -> Judged
+    ensures { λ r. ⌜ IsJudged (now (payload .entry)) r ⌝ }
+{
+    if payload.len() == 0 {
+        return refused(Fault::NoBytes);
+    }
+    if MOST_BYTES < payload.len() {
+        return refused(Fault::TooManyBytes);
+    }
+    match walk(payload) {
+        Walked::Bad(i, at) => refused(Fault::BadCharacter(i, at)),
+        Walked::Clean => judge_breaks(payload),
+    }
+}

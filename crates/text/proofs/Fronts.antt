@@ -1,0 +1,66 @@
+-- The bytes of a character or a break that begins here are there; a break holds one LF, and a character none. Assumes nothing.
+use Prim.Native.Nat.{ℕ, _+_, _≤_}
+use native.Mathlib.Nat.{zero-add}
+use native.Mathlib.Omega.{arith}
+use mathlib.Core.List.{[], _∷_, _++_}
+use mathlib.Core.Logic.{_≢_}
+use mathlib.Core.Path.{_≡_, refl, sym}
+use lib.Dec.{eqb}
+use lib.ListN.{length, take}
+use borrow.Author.Tests.{ne-eqb}
+use Rattle.sieve.specs.Bytes.{Bytes}
+use Rattle.sieve.specs.Characters.{breakWidth, lineFeeds}
+use Rattle.sieve.specs.Lawful.{Plain, no-more, one-more}
+use Rattle.sieve.proofs.Heads.{Head, lf, crlf, other, head}
+use Rattle.swiss.specs.Latin.{latin}
+use Rattle.swiss.proofs.Latin.{lawful}
+use Rattle.text.proofs.ByteByByte.{at-most}
+
+pub feeds-append : (a b : Bytes) → lineFeeds (a ++ b) ≡ lineFeeds a + lineFeeds b
+unfolding lineFeeds
+feeds-append [] b = sym (zero-add (lineFeeds b))
+feeds-append (x ∷ a) b = omega (arith, feeds-append a b)
+
+pub feeds-few : (s : Bytes) → lineFeeds s ≤ length s
+unfolding lineFeeds
+feeds-few [] = omega arith
+feeds-few (x ∷ s) = omega (arith, feeds-few s, at-most 1 (eqb x 10) 1 0 (omega arith) (omega arith))
+
+-- the first n bytes are there, and f of them are LF
+pub record Front (n f : ℕ) (s : Bytes) : Type 0 where
+  pub there : n ≤ length s
+  pub feeds : lineFeeds (take n s) ≡ f
+
+plain-front : {n : ℕ} {s : Bytes} → Plain n s → Front n 0 s
+unfolding lineFeeds
+plain-front no-more = record { there = omega arith; feeds = refl }
+plain-front (one-more {x = x} a b p) =
+    let r = plain-front p in record { there = omega arith; feeds = rw (ne-eqb x 10 a, zero-add) (r .feeds) }
+
+-- an allowed character holds no LF
+pub character-front : (s : Bytes) → Front (latin s) 0 s
+character-front s = plain-front (lawful .plain s)
+
+-- a break is there, and holds one
+pub break-fits : (s : Bytes) → breakWidth s ≤ length s
+unfolding breakWidth
+break-fits [] = omega arith
+break-fits (x ∷ s) = go (head x s)
+  where
+    go : {x : ℕ} {s : Bytes} → Head x s → breakWidth (x ∷ s) ≤ length (x ∷ s)
+    go lf = omega arith
+    go crlf = omega arith
+    go (other e f) = rw (e, f) (omega arith)
+
+pub break-front : (s : Bytes) → breakWidth s ≢ 0 → Front (breakWidth s) 1 s
+unfolding breakWidth lineFeeds
+break-front s h = record { there = break-fits s; feeds = go s h }
+  where
+    one : {x : ℕ} {s : Bytes} → Head x s → breakWidth (x ∷ s) ≢ 0 → lineFeeds (take (breakWidth (x ∷ s)) (x ∷ s)) ≡ 1
+    one lf h = refl
+    one crlf h = refl
+    one (other e f) h = absurd (h (rw (e, f)))
+
+    go : (s : Bytes) → breakWidth s ≢ 0 → lineFeeds (take (breakWidth s) s) ≡ 1
+    go [] h = absurd (h refl)
+    go (x ∷ s) h = one (head x s) h

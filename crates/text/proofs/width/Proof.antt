@@ -1,0 +1,65 @@
+-- `text::width` meets its contract: its tests are those of `latin`, in the same order. Assumes nothing.
+use borrow.Author.Needs.{needs}
+use mathlib.Core.Bool.{cond}
+use mathlib.Core.Path.{_≡_}
+use lib.ListN.{drop}
+use Rattle.swiss.specs.Latin.{latin}
+use Rattle.text.proofs.width.Statement.{statement}
+use Rattle.text.proofs.width.Tie as tie
+
+byte-requires : tie.Need-byte-requires
+byte-requires c κs = search needs
+
+in-one-requires : tie.Need-in-one-requires
+in-one-requires c κs = search needs
+
+returns : tie.Need-returns
+unfolding latin
+returns c = rw (← c .before .before .byte .ensures, ← c .before .in-one .ensures, c .if1 .taken)
+
+byte-requires-2 : tie.Need-byte-requires-2
+byte-requires-2 c κs = search needs
+
+in-two-requires : tie.Need-in-two-requires
+in-two-requires c κs = search needs
+
+returns-2 : tie.Need-returns-2
+unfolding latin
+returns-2 c =
+    let d = c .before .before .before in
+    rw (← d .before .before .byte .ensures, ← d .before .in-one .ensures, d .if1 .left, ← c .before .before .byte2 .ensures, ← c .before .in-two .ensures, c .if2 .taken)
+
+byte-requires-3 : tie.Need-byte-requires-3
+byte-requires-3 c κs = search needs
+
+in-three-requires : tie.Need-in-three-requires
+in-three-requires c κs = search needs
+
+-- what is neither of one byte nor of two is of three, or none
+three : (c : tie.After-in-three) → let a = c .before .before .before .before .before .before .before .before .before .args in latin (drop (a .at) (a .s .now)) ≡ cond (c .in-three .result) 3 0
+unfolding latin
+three c =
+    let e = c .before .before in
+    let d = e .before .before .before in
+    rw (← d .before .before .byte .ensures, ← d .before .in-one .ensures, d .if1 .left, ← e .before .before .byte2 .ensures, ← e .before .in-two .ensures, e .if2 .left, ← c .before .byte3 .ensures, ← c .in-three .ensures)
+
+returns-3 : tie.Need-returns-3
+returns-3 c = rw (three (c .before), c .if3 .taken)
+
+returns-4 : tie.Need-returns-4
+returns-4 c = rw (three (c .before), c .if3 .left)
+
+pub width-spec : {M : Type 1} → statement M
+width-spec =
+    tie.close
+    (tie.spec
+    byte-requires
+    in-one-requires
+    returns
+    byte-requires-2
+    in-two-requires
+    returns-2
+    byte-requires-3
+    in-three-requires
+    returns-3
+    returns-4)

@@ -1,0 +1,3 @@
+pub mod LinesIn
+pub mod Results
+pub mod Laid

@@ -1,0 +1,113 @@
+// Runs the leaves over the records on standard input, each two bytes of length (the low one first) and that many bytes,
+// and writes a line of numbers for each: what the walk finds, the breaks, the characters, the stray break, and the
+// places of lines 1, 2, 3 and 34.
+// All of the input is held at once: a stored input has at most 65,536 bytes.
+use libc::STDIN_FILENO;
+use libc::STDOUT_FILENO;
+use sieve::Break;
+use text::Parted;
+use text::Stray;
+use text::Walked;
+ghost use Prim.Native.Nat.{_≤_};
+
+fn write_first(n: usize) {
+    io::print_decimal(STDOUT_FILENO, n as u64);
+}
+
+fn write_next(n: usize) {
+    io::write_all(STDOUT_FILENO, b" ");
+    io::print_decimal(STDOUT_FILENO, n as u64);
+}
+
+// 0 0 0 where it is clean; else the refusal's number, 3, the line, and the place.
+fn write_walk(s: &[u8]) {
+    match text::walk(s) {
+        Walked::Clean => {
+            write_first(0);
+            write_next(0);
+            write_next(0);
+        }
+        Walked::Bad(line, place) => {
+            write_first(3);
+            write_next(line);
+            write_next(place);
+        }
+    }
+}
+
+fn kind_number(k: Break) -> usize {
+    match k {
+        Break::Lf => 1,
+        Break::CrLf => 2,
+    }
+}
+
+// The kind and how many lines; or 0 and the line that the first unlike break ends.
+fn write_breaks(s: &[u8]) {
+    match text::breaks(s) {
+        Parted::Alike(k, lines) => {
+            write_next(kind_number(k));
+            write_next(lines);
+        }
+        Parted::Unlike(line) => {
+            write_next(0);
+            write_next(line);
+        }
+    }
+}
+
+// One more than the place, or 0. A place is below the length, so that this does not wrap.
+fn write_stray(s: &[u8]) {
+    match text::stray_break(s) {
+        Stray::Nowhere => write_next(0),
+        Stray::At(place) => write_next(std::num::wrapping_add_usize(place, 1)),
+    }
+}
+
+fn write_place(s: &[u8], n: usize) {
+    let place = text::line_place(s, n);
+    write_next(place.start);
+    write_next(place.length);
+}
+
+fn write_answer(s: &[u8]) {
+    write_walk(s);
+    write_breaks(s);
+    write_next(text::characters(s));
+    write_stray(s);
+    write_place(s, 1);
+    write_place(s, 2);
+    write_place(s, 3);
+    write_place(s, 34);
+    io::write_all(STDOUT_FILENO, b"\n");
+}
+
+fn wide(x: u8) -> usize
+    ensures { λ r. ⌜ r ≤ 255 ⌝ }
+{
+    x as usize
+}
+
+// A record that is cut off is not written.
+fn write_answers(input: &[u8]) {
+    let mut at = 0;
+    while at < input.len() {
+        if input.len() - at < 2 {
+            return;
+        }
+        let length = wide(input[at]) + 256 * wide(input[at + 1]);
+        let start = at + 2;
+        if input.len() - start < length {
+            return;
+        }
+        let end = start + length;
+        write_answer(&input[start..end]);
+        at = end;
+    }
+}
+
+fn main() {
+    let mut buffer = io::large_buffer();
+    let n = io::read_full(STDIN_FILENO, &mut buffer);
+    write_answers(&buffer[..n]);
+}

@@ -1,0 +1,61 @@
+-- What a user of the writer may rely on, stated on its contract. Assumes nothing.
+use Prim.Native.Nat.{ℕ, _≤_}
+use mathlib.Core.List.{List, _++_}
+use mathlib.Core.Path.{_≡_, sym, ap, _∙_}
+use lib.Dec.{lit≤}
+use lib.ListN.{length, drop}
+use Rattle.sieve.specs.declared.Break.{Break}
+use Rattle.sieve.specs.declared.Fault.{Fault}
+use Rattle.sieve.specs.declared.Written.{Written}
+use Rattle.sieve.specs.declared.Written.the-variants.{Length, Refused}
+use Rattle.sieve.specs.Bytes.{Bytes}
+use Rattle.sieve.specs.Lines.{Bill, written, billOf}
+use Rattle.sieve.specs.Verdict.{accepted, verdict}
+use Rattle.sieve.specs.Paper.{paperFault}
+use Rattle.sieve.specs.Places.{placesOf}
+use Rattle.sieve.specs.Keeps.{Keeps}
+use Rattle.sieve.specs.Writing.{spans, handed}
+use Rattle.sieve.proofs.PaperLosesNothing.{one-written}
+use Rattle.sieve.proofs.WriterPromises.{handedBill, Inside, laid-written, laid-accepted, refused-unchanged, bill-laid, round-trip}
+use Rattle.swiss.specs.Swiss.{swiss}
+use Rattle.swiss.proofs.Latin.{lawful}
+use Rattle.writer.specs.Writing.{IsWritten}
+
+-- one answer, and one content of the destination
+pub one-writing : (text : Bytes) (list : List ℕ) (count : ℕ) (k : Break) (dest : Bytes) (q r : Written) (a b : Bytes)
+    → IsWritten text list count k dest q a → IsWritten text list count k dest r b → (q ≡ r) × (a ≡ b)
+one-writing text list count k dest q r a b h j = (one-written q r (h .answer ∙ sym (j .answer)), h .lent ∙ sym (j .lent))
+
+module _ (text : Bytes) (list : List ℕ) (count : ℕ) (k : Break) (dest after : Bytes) where
+  abbrev b : Bill
+  b = handedBill text list count k
+
+  -- what is written is the bill of those lines and that break; what lies behind it stays
+  pub lines-are-written : (n : ℕ) → IsWritten text list count k dest (Length n) after → (n ≡ length (written b)) × (after ≡ written b ++ drop (length (written b)) dest)
+  lines-are-written n h = let (e, l) = laid-written swiss text list count k dest n (sym (h .answer)) in (e, h .lent ∙ l)
+
+  -- the reader accepts it and gives back the same lines and break: the bill keeps every rule
+  pub written-is-accepted : (n : ℕ) → IsWritten text list count k dest (Length n) after → (verdict swiss (written b) ≡ accepted count k) × (billOf (written b) ≡ b) × Keeps swiss b
+  unfolding swiss
+  written-is-accepted n h = laid-accepted swiss text list count k dest (λ ls. lawful) (lit≤ tt) n (sym (h .answer))
+
+  -- a refusal changes nothing
+  pub refusal-changes-nothing : (f : Fault) → IsWritten text list count k dest (Refused f) after → after ≡ dest
+  refusal-changes-nothing f h = h .lent ∙ refused-unchanged swiss text list count k dest (paperFault f) (sym (h .answer))
+
+-- a bill that keeps every rule, whose lines lie anywhere in a text by any places, is written, given room
+pub bill-is-written : (b : Bill) (text : Bytes) (list : List ℕ) (dest after : Bytes) (r : Written) → Keeps swiss b → 68 ≤ length list → handed text list (length (b .lines)) ≡ b .lines
+    → Inside (length text) (spans (length (b .lines)) list) → length (written b) ≤ length dest → IsWritten text list (length (b .lines)) (b .break) dest r after
+    → (r ≡ Length (length (written b))) × (after ≡ written b ++ drop (length (written b)) dest)
+unfolding swiss
+bill-is-written b text list dest after r keeps size lines inside room h =
+    let e = bill-laid swiss (λ ls. lawful) (lit≤ tt) b text list dest keeps size lines inside room in
+    (one-written r _ (h .answer ∙ ap (λ d. d .answer) e), h .lent ∙ ap (λ d. d .lent) e)
+
+-- round trip: an accepted payload, with its own places, count and break, gives the payload again, given room
+pub payload-again : (p : Bytes) (n : ℕ) (k : Break) (rest : List ℕ) (dest after : Bytes) (r : Written) → verdict swiss p ≡ accepted n k → length p ≤ length dest
+    → IsWritten p (placesOf swiss (billOf p) ++ rest) n k dest r after → (r ≡ Length (length p)) × (after ≡ p ++ drop (length p) dest)
+unfolding swiss
+payload-again p n k rest dest after r h room w =
+    let e = round-trip swiss (λ ls. lawful) (lit≤ tt) p n k rest dest h room in
+    (one-written r _ (w .answer ∙ ap (λ d. d .answer) e), w .lent ∙ ap (λ d. d .lent) e)

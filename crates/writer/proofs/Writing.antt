@@ -1,0 +1,176 @@
+-- What the writer's findings leave of its answer, at each of its stages. Assumes nothing.
+use Prim.Native.Nat.{ℕ, suc, _-_, _≤_, _<_}
+use native.Mathlib.Nat.{sub-zero}
+use native.Mathlib.Omega.{arith}
+use mathlib.Core.Bool.{true, false, not, _||_}
+use mathlib.Core.List.{List, [], _∷_, _++_}
+use mathlib.Core.Option.{Option, some, none, Option·getD, Option·none-ne-some}
+use mathlib.Core.Path.{_≡_, refl, sym, ap, _∙_}
+use lib.Dec.{eqb}
+use lib.ListN.{length, drop}
+use lib.Seq.{take-append-seam}
+use borrow.Rule.Slice.PartMut.{midOf}
+use borrow.Author.Tests.{lt-ltb, le-ltb}
+use Rattle.sieve.specs.declared.Break.{Break}
+use Rattle.sieve.specs.declared.Fault.{Fault}
+use Rattle.sieve.specs.declared.Fault.the-variants.{TooManyBytes, BadCharacter, LineCount, OutsideText, NoRoom}
+use Rattle.sieve.specs.declared.Written.the-variants.{Length, Refused}
+use Rattle.sieve.specs.Bytes.{Bytes, within, firstSuch}
+use Rattle.sieve.specs.Lines.{billOf}
+use Rattle.sieve.specs.Verdict.{Refusal, under, underAt, accepted, refused, findings, found, first, verdict}
+use Rattle.sieve.specs.Paper.{paperFault}
+use Rattle.sieve.specs.Places.{Placed, placed}
+use Rattle.sieve.specs.Reading.{noRoom}
+use Rattle.sieve.specs.Writing.{spans, handed, outsideText, strayBreak, writeFindings, writeAnswer}
+use Rattle.sieve.proofs.Accepts.{within-both}
+use Rattle.sieve.proofs.Findings.{first-nil, settled-accepts, settled-refuses, verdict-is}
+use Rattle.swiss.specs.Limits.{mostBytes, fewestLines, mostLines}
+use Rattle.swiss.specs.Swiss.{swiss}
+use Rattle.judge.proofs.Stages.{too-many}
+use Rattle.writer.specs.declared.Outside.the-variants.{Nowhere, At}
+use Rattle.writer.specs.declared.Measured.the-variants.{Stray, Length as Fits}
+use Rattle.writer.specs.Handing.{outsideAs, firstOutside, measuredAs, measured}
+use Rattle.writer.specs.Writing.{IsWritten, bytes, Hangs, Found, Joined, Accepted}
+use Rattle.writer.proofs.Handing.{all-inside}
+
+-- a stray break is refused under 3, with the byte's place
+stray-three : (i : ℕ) (ls : List Placed) (r : Refusal) → strayBreak i ls ≡ some r → r ≡ underAt 3 (r .line) (Option·getD (r .place) 0)
+unfolding strayBreak
+stray-three i [] r h = absurd (Option·none-ne-some r h)
+stray-three i (l ∷ ls) r h = go (firstSuch (λ x. eqb x 10 || eqb x 13) (l .start) (l .text)) refl (stray-three (suc i) ls r)
+  where
+    go : (o : Option ℕ) → firstSuch (λ x. eqb x 10 || eqb x 13) (l .start) (l .text) ≡ o → (strayBreak (suc i) ls ≡ some r → r ≡ underAt 3 (r .line) (Option·getD (r .place) 0)) → r ≡ underAt 3 (r .line) (Option·getD (r .place) 0)
+    go none e ih = ih (rw (e, strayBreak) at h)
+    go (some at) e ih = let q : _≡_ {A = Option Refusal} (some (underAt 3 i at)) (some r) = rw (e, strayBreak) at h in let s : underAt 3 i at ≡ r = cc in rw (← s)
+
+module _ (text : Bytes) (list : List ℕ) (count : ℕ) (k : Break) (dest : Bytes) where
+  abbrev B : Bytes
+  B = bytes text list count k dest
+
+  abbrev H : List (Option Refusal) → Type 0
+  H = Hangs text list count k dest
+
+  passed : {o : Option Refusal} (os : List (Option Refusal)) → H (o ∷ os) → o ≡ none → H os
+  unfolding first
+  passed os h e = h ∙ rw (e, first)
+
+  stopped : {o : Option Refusal} (os : List (Option Refusal)) (f : Fault) → H (o ∷ os) → o ≡ some (paperFault f) → IsWritten text list count k dest (Refused f) dest
+  unfolding first writeAnswer
+  stopped os f h e =
+      let found : first (writeFindings swiss text list count k (length dest)) ≡ some (paperFault f) = h ∙ rw (e, first) in
+      record { answer = rw found; lent = rw found }
+
+  -- the findings after the list, after the count, after the places and after the lines
+
+  abbrev joinedFindings : List (Option Refusal)
+  joinedFindings = first (findings swiss B) ∷ noRoom (length dest) (length B) ∷ []
+
+  abbrev lineFindings : List (Option Refusal)
+  lineFindings = strayBreak 1 (placed 0 k (handed text list count)) ∷ joinedFindings
+
+  abbrev placeFindings : List (Option Refusal)
+  placeFindings = outsideText text (spans count list) ∷ lineFindings
+
+  abbrev countFindings : List (Option Refusal)
+  countFindings = found (not (within fewestLines mostLines count)) (under 5 count) ∷ placeFindings
+
+  all-findings : H (noRoom (length list) 68 ∷ countFindings)
+  unfolding writeFindings swiss
+  all-findings = refl
+
+  -- the list
+
+  pub short-list : length list < 68 → IsWritten text list count k dest (Refused NoRoom) dest
+  short-list h = stopped countFindings NoRoom all-findings (rw (lt-ltb (length list) 68 h))
+
+  module _ (size : 68 ≤ length list) where
+    counted : H countFindings
+    counted = passed countFindings all-findings (rw (le-ltb (length list) 68 size))
+
+    -- the count
+
+    pub wrong-count : within fewestLines mostLines count ≡ false → IsWritten text list count k dest (Refused (LineCount count)) dest
+    wrong-count h = stopped placeFindings (LineCount count) counted (rw h)
+
+    module _ (good : within fewestLines mostLines count ≡ true) where
+      at-places : H placeFindings
+      at-places = passed placeFindings counted (rw good)
+
+      -- the places
+
+      pub place-outside : (i : ℕ) → At i ≡ outsideAs (firstOutside text list count) → IsWritten text list count k dest (Refused (OutsideText i)) dest
+      unfolding firstOutside
+      place-outside i h = go (firstOutside text list count) refl h
+        where
+          go : (o : Option ℕ) → firstOutside text list count ≡ o → At i ≡ outsideAs o → IsWritten text list count k dest (Refused (OutsideText i)) dest
+          go none e q = let z : _≡_ {A = ℕ} 0 1 = cc in absurd (omega arith)
+          go (some j) e q = let same : i ≡ j = cc in stopped lineFindings (OutsideText i) at-places (rw (e, same))
+
+      pub places-inside : Nowhere ≡ outsideAs (firstOutside text list count) → Found text list count k dest
+      unfolding firstOutside
+      places-inside h = go (firstOutside text list count) refl h
+        where
+          go : (o : Option ℕ) → firstOutside text list count ≡ o → Nowhere ≡ outsideAs o → Found text list count k dest
+          go (some j) e q = let z : _≡_ {A = ℕ} 0 1 = cc in absurd (omega arith)
+          go none e q =
+              let (least, most) = within-both fewestLines mostLines count good in
+              record {
+                inside = all-inside text list count (omega arith) e;
+                some-lines = omega arith;
+                not-too-many = most;
+                hangs = passed lineFindings at-places (rw e);
+              }
+
+  -- the lines
+
+  pub stray-found : (i at : ℕ) → Found text list count k dest → Stray i at ≡ measured text list count k → IsWritten text list count k dest (Refused (BadCharacter i at)) dest
+  unfolding measured
+  stray-found i at f h = go (strayBreak 1 (placed 0 k (handed text list count))) refl h
+    where
+      go : (o : Option Refusal) → strayBreak 1 (placed 0 k (handed text list count)) ≡ o → Stray i at ≡ measuredAs o (length B) → IsWritten text list count k dest (Refused (BadCharacter i at)) dest
+      go none e q = let z : _≡_ {A = ℕ} 0 1 = cc in absurd (omega arith)
+      go (some r) e q =
+          let a : i ≡ r .line = cc in
+          let b : at ≡ Option·getD (r .place) 0 = cc in
+          stopped joinedFindings (BadCharacter i at) (f .hangs) (e ∙ ap some (rw (a, b) (stray-three 1 _ r e)))
+
+  pub none-stray : (n : ℕ) → Found text list count k dest → Fits n ≡ measured text list count k → Joined text list count k dest n
+  unfolding measured
+  none-stray n f h = go (strayBreak 1 (placed 0 k (handed text list count))) refl h
+    where
+      go : (o : Option Refusal) → strayBreak 1 (placed 0 k (handed text list count)) ≡ o → Fits n ≡ measuredAs o (length B) → Joined text list count k dest n
+      go (some r) e q = let z : _≡_ {A = ℕ} 0 1 = cc in absurd (omega arith)
+      go none e q = let long : n ≡ length B = cc in record { inside = f .inside; bytes-are = long; hangs = passed joinedFindings (f .hangs) e }
+
+  -- the joined bytes
+
+  module _ (n : ℕ) (f : Joined text list count k dest n) where
+    pub reader-refuses : (q : Fault) → verdict swiss B ≡ refused (paperFault q) → IsWritten text list count k dest (Refused q) dest
+    reader-refuses q h = stopped _ q (f .hangs) (settled-refuses (billOf B) (first (findings swiss B)) (paperFault q) (sym (verdict-is swiss B) ∙ h))
+
+    pub too-many-bytes : mostBytes < n → IsWritten text list count k dest (Refused TooManyBytes) dest
+    too-many-bytes h = reader-refuses TooManyBytes (too-many B (λ z. absurd (omega (arith, f .bytes-are))) (omega (arith, f .bytes-are)))
+
+    pub reader-accepts : (m : ℕ) (j : Break) → verdict swiss B ≡ accepted m j → Accepted text list count k dest n
+    reader-accepts m j h =
+        record {
+          inside = f .inside;
+          bytes-are = f .bytes-are;
+          hangs = passed (noRoom (length dest) (length B) ∷ []) (f .hangs) (settled-accepts (billOf B) (first (findings swiss B)) (sym (verdict-is swiss B) ∙ h) .0);
+        }
+
+  -- room
+
+  module _ (n : ℕ) (f : Accepted text list count k dest n) where
+    pub too-short : length dest < n → IsWritten text list count k dest (Refused NoRoom) dest
+    too-short h = stopped [] NoRoom (f .hangs) (rw (lt-ltb (length dest) (length B) (omega (arith, f .bytes-are))))
+
+    pub room-for-all : n ≤ length dest → (after : Bytes) → after ≡ B ++ drop (length B) dest → IsWritten text list count k dest (Length n) after
+    unfolding writeAnswer
+    room-for-all h after is =
+        let nothing : first (writeFindings swiss text list count k (length dest)) ≡ none = passed [] (f .hangs) (rw (le-ltb (length dest) (length B) (omega (arith, f .bytes-are)))) ∙ first-nil in
+        record { answer = rw (nothing, f .bytes-are); lent = rw nothing is }
+
+-- the front of a buffer in which bytes are laid
+pub laid-front : (J buffer rest : Bytes) (n : ℕ) → n ≡ length J → buffer ≡ J ++ rest → midOf 0 (n - 0) buffer ≡ J
+laid-front J buffer rest n long is = rw (is, sub-zero n, long) (take-append-seam J rest)

@@ -1,0 +1,52 @@
+-- What the writer's parts answer: places outside the text, stray breaks, the joined length. Assumes nothing.
+use Prim.Native.Nat.{ℕ, _+_, _*_, _≤_, _<_}
+use mathlib.Core.Bool.{Bool, true, false}
+use mathlib.Core.List.{List}
+use mathlib.Core.Option.{Option, some, none, Option·getD}
+use lib.Dec.{ltb}
+use lib.ListN.{length, getD}
+use Rattle.sieve.specs.declared.Break.{Break}
+use Rattle.sieve.specs.Bytes.{Bytes, firstSuch}
+use Rattle.sieve.specs.Lines.{joined}
+use Rattle.sieve.specs.Verdict.{Refusal}
+use Rattle.sieve.specs.Places.{placed}
+use Rattle.sieve.specs.Writing.{Span, spans, part, handed, strayBreak}
+use Rattle.text.specs.declared.After.{After}
+use Rattle.text.specs.declared.After.the-variants.{Nothing, ABreak}
+use Rattle.writer.specs.declared.Outside.{Outside}
+use Rattle.writer.specs.declared.Outside.the-variants.{Nowhere, At}
+use Rattle.writer.specs.declared.Measured.{Measured}
+use Rattle.writer.specs.declared.Measured.the-variants.{Stray, Length}
+
+-- the place that entry i of a list gives, counted from 0, and the part of the text there
+abbrev pub spanAt : List ℕ → ℕ → Span
+spanAt list i = record { start = getD list (2 * i) 0; bytes = getD list (2 * i + 1) 0 }
+
+abbrev pub lineAt : Bytes → List ℕ → ℕ → Bytes
+lineAt text list i = part text (spanAt list i)
+
+-- the first of so many lines whose place lies outside the text
+abbrev pub outsideAs : Option ℕ → Outside
+outsideAs none = Nowhere
+outsideAs (some i) = At i
+
+unfoldable pub firstOutside : Bytes → List ℕ → ℕ → Option ℕ
+firstOutside text list count = firstSuch (λ s. ltb (length text) (s .start + s .bytes)) 1 (spans count list)
+
+-- so many places are there, and lie inside the text
+pub record Inside (text : Bytes) (list : List ℕ) (count : ℕ) : Type 0 where
+  pub there : 2 * count ≤ length list
+  pub inside : (i : ℕ) → i < count → getD list (2 * i) 0 + getD list (2 * i + 1) 0 ≤ length text
+
+-- the first stray break; where there is none, the length of the joined bytes
+abbrev pub measuredAs : Option Refusal → ℕ → Measured
+measuredAs none n = Length n
+measuredAs (some r) n = Stray (r .line) (Option·getD (r .place) 0)
+
+unfoldable pub measured : Bytes → List ℕ → ℕ → Break → Measured
+measured text list count k = measuredAs (strayBreak 1 (placed 0 k (handed text list count))) (length (joined k (handed text list count)))
+
+-- what is laid after a line: a break, if another line follows
+abbrev pub breakIf : Bool → Break → After
+breakIf true k = ABreak k
+breakIf false k = Nothing

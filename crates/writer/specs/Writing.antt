@@ -1,0 +1,52 @@
+-- What the writer answers, and what the destination then holds. Assumes nothing.
+use Prim.Native.Nat.{ℕ, _≤_}
+use mathlib.Core.List.{List, [], _∷_}
+use mathlib.Core.Option.{Option}
+use mathlib.Core.Path.{_≡_}
+use lib.ListN.{length}
+use Rattle.sieve.specs.declared.Break.{Break}
+use Rattle.sieve.specs.declared.Written.{Written}
+use Rattle.sieve.specs.Bytes.{Bytes}
+use Rattle.sieve.specs.Lines.{joined}
+use Rattle.sieve.specs.Verdict.{Refusal, findings, first}
+use Rattle.sieve.specs.Paper.{paperWritten}
+use Rattle.sieve.specs.Places.{placed}
+use Rattle.sieve.specs.Reading.{noRoom}
+use Rattle.sieve.specs.Writing.{handed, strayBreak, writeFindings, writeAnswer}
+use Rattle.swiss.specs.Limits.{mostLines}
+use Rattle.swiss.specs.Swiss.{swiss}
+use Rattle.writer.specs.Handing.{Inside}
+
+-- of a text, a list of places, a count, a break and a destination, the answer r and the destination afterwards
+pub record IsWritten (text : Bytes) (list : List ℕ) (count : ℕ) (k : Break) (dest : Bytes) (r : Written) (after : Bytes) : Type 0 where
+  pub answer : paperWritten r ≡ writeAnswer swiss text list count k dest .answer
+  pub lent : after ≡ writeAnswer swiss text list count k dest .lent
+
+-- what is known at each stage of the writer
+
+module _ (text : Bytes) (list : List ℕ) (count : ℕ) (k : Break) (dest : Bytes) where
+  abbrev pub bytes : Bytes
+  bytes = joined k (handed text list count)
+
+  -- the answer hangs on these findings alone: those before them are none
+  abbrev pub Hangs : List (Option Refusal) → Type 0
+  Hangs os = first (writeFindings swiss text list count k (length dest)) ≡ first os
+
+  -- the list, the count and the places are good
+  pub record Found : Type 0 where
+    pub inside : Inside text list count
+    pub some-lines : 1 ≤ count
+    pub not-too-many : count ≤ mostLines
+    pub hangs : Hangs (strayBreak 1 (placed 0 k (handed text list count)) ∷ first (findings swiss bytes) ∷ noRoom (length dest) (length bytes) ∷ [])
+
+  -- no line holds a break, and joined they are n bytes
+  pub record Joined (n : ℕ) : Type 0 where
+    pub inside : Inside text list count
+    pub bytes-are : n ≡ length bytes
+    pub hangs : Hangs (first (findings swiss bytes) ∷ noRoom (length dest) (length bytes) ∷ [])
+
+  -- the reader accepts them
+  pub record Accepted (n : ℕ) : Type 0 where
+    pub inside : Inside text list count
+    pub bytes-are : n ≡ length bytes
+    pub hangs : Hangs (noRoom (length dest) (length bytes) ∷ [])

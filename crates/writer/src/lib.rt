@@ -1,0 +1,191 @@
+// Writes a bill: its lines, found in a text by a list of places, joined by a break.
+use content::limits::FEWEST_LINES;
+use content::limits::LIST_SIZE;
+use content::limits::MOST_BYTES;
+use content::limits::MOST_LINES;
+use judge::judge;
+use sieve::Answer;
+use sieve::Break;
+use sieve::Fault;
+use sieve::Written;
+use text::After;
+use text::Stray;
+use text::lay;
+use text::stray_break;
+ghost use mathlib.Core.List.{_++_};
+ghost use mathlib.Core.Path.{_≡_};
+ghost use Prim.Native.Nat.{_+_, _*_, _≤_, _<_};
+ghost use lib.ListN.{length, drop, getD};
+ghost use Rattle.sieve.specs.Lines.{breakBytes, joined};
+ghost use Rattle.sieve.specs.Writing.{handed};
+ghost use Rattle.writer.specs.Handing.{lineAt, outsideAs, firstOutside, Inside, measured, breakIf};
+ghost use Rattle.writer.specs.Writing.{IsWritten, Found, Joined, Accepted};
+
+// The line that entry i of a list, counted from 0, gives of a text.
+fn handed_line<'a, 'b>(text: &'a [u8], list: &'b [u16], i: usize) -> &'a [u8]
+    requires { ⌜ (2 * i + 1 < length (now list)) × (getD (now list) (2 * i) 0 + getD (now list) (2 * i + 1) 0 ≤ length (now text)) ⌝ }
+    ensures { λ r. ⌜ now r ≡ lineAt (now (text .entry)) (now (list .entry)) i ⌝ }
+{
+    let start = list[2 * i] as usize;
+    let end = start + list[2 * i + 1] as usize;
+    &text[start..end]
+}
+
+// The first line whose place lies outside the text, counted from 1.
+pub enum Outside {
+    Nowhere,
+    At(usize),
+}
+
+fn first_outside(text: &[u8], list: &[u16], count: usize) -> Outside
+    requires { ⌜ 2 * count ≤ length (now list) ⌝ }
+    ensures { λ r. ⌜ r ≡ outsideAs (firstOutside (now (text .entry)) (now (list .entry)) count) ⌝ }
+{
+    let mut i = 0;
+    while i < count {
+        let start = list[2 * i] as usize;
+        let bytes = list[2 * i + 1] as usize;
+        if text.len() < start + bytes {
+            return Outside::At(i + 1);
+        }
+        i += 1;
+    }
+    Outside::Nowhere
+}
+
+// What the lines come to when they are joined.
+pub enum Measured {
+    // a line that holds CR or LF, and that byte's place in the joined bytes
+    Stray(usize, usize),
+    // how many bytes
+    Length(usize),
+}
+
+fn break_length(k: Break) -> usize
+    ensures { λ r. ⌜ r ≡ length (breakBytes k) ⌝ }
+{
+    match k {
+        Break::Lf => 1,
+        Break::CrLf => 2,
+    }
+}
+
+fn measure(text: &[u8], list: &[u16], count: usize, k: Break) -> Measured
+    requires { ⌜ Inside (now text) (now list) count × (1 ≤ count) × (count ≤ 34) ⌝ }
+    ensures { λ r. ⌜ r ≡ measured (now (text .entry)) (now (list .entry)) count k ⌝ }
+{
+    let mut at = 0;
+    let mut i = 0;
+    while i < count {
+        let line = handed_line(text, list, i);
+        match stray_break(line) {
+            Stray::At(j) => return Measured::Stray(i + 1, at + j),
+            Stray::Nowhere => {
+                at = at + line.len() + break_length(k);
+                i += 1;
+            }
+        }
+    }
+    Measured::Length(at - break_length(k))
+}
+
+// What is laid after a line: a break, if another line follows.
+fn after_line(more: bool, k: Break) -> After
+    ensures { λ r. ⌜ r ≡ breakIf more k ⌝ }
+{
+    if more {
+        After::ABreak(k)
+    } else {
+        After::Nothing
+    }
+}
+
+// Lays line after line, each with the break after it but the last, into the part of the destination after what is
+// already written.
+fn lay_lines(dest: &mut [u8], text: &[u8], list: &[u16], count: usize, k: Break)
+    requires { ⌜ Inside (now text) (now list) count × (length (joined k (handed (now text) (now list) count)) ≤ length (now dest)) ⌝ }
+    ensures { λ _.
+        ⌜ now (dest .exit) ≡ joined k (handed (now (text .entry)) (now (list .entry)) count) ++ drop (length (joined k (handed (now (text .entry)) (now (list .entry)) count))) (now (dest .entry)) ⌝ }
+{
+    let mut n = 0;
+    let mut i = 0;
+    while i < count {
+        let line = handed_line(text, list, i);
+        i += 1;
+        n += lay(&mut dest[n..], line, after_line(i < count, k));
+    }
+}
+
+// Lays lines that the reader accepts, when they are joined, into a destination that has room for them.
+fn write_accepted(
+    text: &[u8],
+    list: &[u16],
+    count: usize,
+    k: Break,
+    dest: &mut [u8],
+    n: usize,
+) -> Written
+    requires { ⌜ Accepted (now text) (now list) count k (now dest) n ⌝ }
+    ensures { λ r. ⌜ IsWritten (now (text .entry)) (now (list .entry)) count k (now (dest .entry)) r (now (dest .exit)) ⌝ }
+{
+    if dest.len() < n {
+        return Written::Refused(Fault::NoRoom);
+    }
+    lay_lines(dest, text, list, count, k);
+    Written::Length(n)
+}
+
+// Asks the reader about the joined lines. They are joined in a buffer of its own, so that a refusal leaves the
+// destination as it is.
+fn write_joined(
+    text: &[u8],
+    list: &[u16],
+    count: usize,
+    k: Break,
+    dest: &mut [u8],
+    n: usize,
+) -> Written
+    requires { ⌜ Joined (now text) (now list) count k (now dest) n ⌝ }
+    ensures { λ r. ⌜ IsWritten (now (text .entry)) (now (list .entry)) count k (now (dest .entry)) r (now (dest .exit)) ⌝ }
+{
+    if MOST_BYTES < n {
+        return Written::Refused(Fault::TooManyBytes);
+    }
+    let mut joined = [0; 997];
+    lay_lines(&mut joined, text, list, count, k);
+    let judged = judge(&joined[0..n]);
+    let answer = judged.answer;
+    match answer {
+        Answer::Refused(f) => Written::Refused(f),
+        Answer::Accepted(_, _) => write_accepted(text, list, count, k, dest, n),
+    }
+}
+
+// Looks for stray breaks in lines that all lie inside the text.
+fn write_lines(text: &[u8], list: &[u16], count: usize, k: Break, dest: &mut [u8]) -> Written
+    requires { ⌜ Found (now text) (now list) count k (now dest) ⌝ }
+    ensures { λ r. ⌜ IsWritten (now (text .entry)) (now (list .entry)) count k (now (dest .entry)) r (now (dest .exit)) ⌝ }
+{
+    match measure(text, list, count, k) {
+        Measured::Stray(i, at) => Written::Refused(Fault::BadCharacter(i, at)),
+        Measured::Length(n) => write_joined(text, list, count, k, dest, n),
+    }
+}
+
+// Joins the lines that the first `count` places give of the text, with the break between them, in the front of the
+// destination, and answers how many bytes those are. A refusal changes no byte of it.
+pub fn write(text: &[u8], places: &[u16], count: usize, brk: Break, dest: &mut [u8]) -> Written
+    ensures { λ r. ⌜ IsWritten (now (text .entry)) (now (places .entry)) count brk (now (dest .entry)) r (now (dest .exit)) ⌝ }
+{
+    if places.len() < LIST_SIZE {
+        return Written::Refused(Fault::NoRoom);
+    }
+    if (FEWEST_LINES <= count) & (count <= MOST_LINES) {
+        match first_outside(text, places, count) {
+            Outside::At(i) => Written::Refused(Fault::OutsideText(i)),
+            Outside::Nowhere => write_lines(text, places, count, brk, dest),
+        }
+    } else {
+        Written::Refused(Fault::LineCount(count))
+    }
+}

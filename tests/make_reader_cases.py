@@ -1,0 +1,94 @@
+"""Make the payloads that the program `reader_cases` is run on, and what it has to write for each.
+
+The payloads are those of all cases, in their order, each behind its length in four bytes. What is
+to be written is the reference's answer, for lists of three lengths. Of a payload only the first
+2,000 bytes are stored: past 997 it does not matter how many there are.
+
+With `--check` it writes no file: it compares the stored files with what it would make, once for
+each case and list. It prints a line for each failure and at the end `N passed, M failed`.
+"""
+
+import sys
+from itertools import zip_longest
+from pathlib import Path
+
+from casefile import read_cases
+from reference.qrbill import LIST_NUMBERS, Accepted, read
+
+TESTS = Path(__file__).resolve().parent
+CRATE = TESTS.parent / 'crates' / 'reader_cases'
+
+MOST_STORED = 2000  # bytes of a payload
+LENGTH_BYTES = 4
+LIST_SIZES = (68, 70, 67)
+FIRST_MARK = 60000
+BREAK_NUMBERS = {'LF': 1, 'CRLF': 2}
+
+
+def record(payload):
+    """A payload behind its length."""
+    return len(payload).to_bytes(LENGTH_BYTES, 'little') + payload
+
+
+def line(payload, size):
+    """The line that the program has to write for a payload and a list of so many numbers."""
+    answer = read(payload, size)
+    marks = list(range(FIRST_MARK, FIRST_MARK + size))
+    if isinstance(answer, Accepted):
+        words = [0, answer.lines, BREAK_NUMBERS[answer.brk]]
+        words += answer.places + marks[LIST_NUMBERS:]
+    else:
+        words = [answer.number, answer.line]
+        words += ['same'] if size < LIST_NUMBERS else marks
+    return ' '.join(map(str, words)).encode() + b'\n'
+
+
+def make():
+    """For each case and list size a name, and the record with the line."""
+    for case in read_cases(TESTS / 'cases'):
+        payload = case.payload[:MOST_STORED]
+        for size in LIST_SIZES:
+            yield f'{case.name} with {size} numbers', (record(payload), line(payload, size))
+
+
+def stored_records():
+    """The records of the stored input; a last one that is cut short is as short here."""
+    content = (CRATE / 'stdin').read_bytes()
+    while content:
+        end = LENGTH_BYTES + int.from_bytes(content[:LENGTH_BYTES], 'little')
+        yield content[:end]
+        content = content[end:]
+
+
+def stored():
+    """Each record once for each list size, with the line of the stored output."""
+    records = [record for record in stored_records() for _ in LIST_SIZES]
+    return zip_longest(records, (CRATE / 'stdout').read_bytes().splitlines(keepends=True))
+
+
+def check():
+    """Count and print; the exit status is 1 if anything failed."""
+    passed = failed = 0
+    for made, got in zip_longest(make(), stored()):
+        name, expected = made or ('past the last case', None)
+        if expected == got:
+            passed += 1
+        else:
+            failed += 1
+            print(f'{name}: expected {expected}, got {got}')
+    print(f'{passed} passed, {failed} failed')
+    return 1 if failed else 0
+
+
+def main():
+    """Write the two files, or check them."""
+    if sys.argv[1:] == ['--check']:
+        return check()
+    records, lines = zip(*(pair for _, pair in make()))
+    (CRATE / 'stdin').write_bytes(b''.join(records[::len(LIST_SIZES)]))
+    (CRATE / 'stdout').write_bytes(b''.join(lines))
+    return 0
+
+
+if __name__ == '__main__':
+    sys.exit(main())

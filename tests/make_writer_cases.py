@@ -1,0 +1,322 @@
+"""Make the records that the program `writer_cases` is run on, and what it has to write for each.
+
+A record is two bytes of length and then, two bytes each and the low one first: the count of lines,
+the break (1 for LF, 2 for CR LF), how many bytes the destination has, how many numbers the list
+has, and those numbers; the rest is the text. The answers are the reference's. The records are the
+same in each run.
+
+With `--check` it writes no file: it compares the stored files with what it would make. It prints a
+line for each failure and at the end `N passed, M failed`.
+"""
+
+import sys
+from itertools import zip_longest
+from pathlib import Path
+from random import Random
+from typing import NamedTuple
+
+from casefile import read_cases
+from reference.qrbill import BREAKS, Accepted, Refused, first_bad_place, read, write
+
+TESTS = Path(__file__).resolve().parent
+CRATE = TESTS.parent / 'crates' / 'writer_cases'
+MOST_INPUT = 524288  # the program holds no more
+MOST_NUMBERS = 70  # of a list, in the program
+MOST_ROOM = 1200  # of the program's destination
+MARK = b'\xFF'  # what the program fills its destination with: a byte that no bill holds
+
+
+class Call(NamedTuple):
+    """What the writer is called with."""
+    text: bytes
+    places: list
+    count: int = 31
+    brk: str = 'LF'
+    room: int = 170
+
+
+# The answers.
+
+def joined_lines(call):
+    """The lines that the places give, and their bytes when they are joined."""
+    pairs = zip(call.places[:2 * call.count:2], call.places[1:2 * call.count:2])
+    lines = [call.text[start:start + length] for start, length in pairs]
+    return lines, BREAKS[call.brk].join(lines)
+
+
+def place_of_bad_character(call, line):
+    """The place, in the joined bytes, of the byte that refusal 3 speaks of: the first CR or LF
+    within the line if one is there, else the first that begins no character."""
+    lines, joined = joined_lines(call)
+    before = sum(len(text) + len(BREAKS[call.brk]) for text in lines[:line - 1])
+    for place, byte in enumerate(lines[line - 1]):
+        if byte in b'\r\n':
+            return before + place
+    return first_bad_place(joined)
+
+
+def answer(call):
+    """The line that the program has to write for a call."""
+    told = write(call.text, call.places, call.count, call.brk, call.room)
+    if isinstance(told, Refused):
+        place = place_of_bad_character(call, told.line) if told.number == 3 else 0
+        numbers, data = [told.number, told.line, place], b''
+    else:
+        numbers, data = [0, len(told.data), 0], told.data
+    after = data + (call.room - len(data)) * MARK
+    return f'{numbers[0]} {numbers[1]} {numbers[2]} {after.hex()}\n'.encode()
+
+
+# Bills to call with.
+
+BASE = (
+    b'SPC|0200|1|CH5800791123000889012|S|Schule Muster|Hofweg|4|8000|Seldwyla|CH||||||||199.95|CHF'
+    b'||||||||SCOR|RF18539007547034|Kurs Mai|EPD'
+)
+BASE_LENGTHS = {'LF': 134, 'CRLF': 164}
+OUTSIDE = (0, 65535)
+GARBAGE = (65535, 65535)
+LONGEST = {  # lines as long as they may be, where that breaks no other rule
+    6: 70 * b'n', 7: 70 * b's', 8: 16 * b'h', 9: 16 * b'p', 10: 35 * b't',
+    21: b'S', 22: 70 * b'n', 23: 70 * b's', 24: 16 * b'h', 25: 16 * b'p', 26: 35 * b't', 27: b'CH',
+    30: 140 * b'm',
+    33: 100 * b'a', 34: 100 * b'b',
+}
+
+
+def bill(lines=(), places=(), numbers=68, **others):
+    """The base bill with other texts for some lines and other places for some lines. The lines lie
+    end to end, without breaks: the writer's text need not be a payload."""
+    texts = BASE.split(b'|') + 3 * [b'']
+    for number, text in dict(lines).items():
+        texts[number - 1] = text
+    laid = []
+    for number, text in enumerate(texts):
+        laid += [len(b''.join(texts[:number])), len(text)]
+    for number, place in dict(places).items():
+        laid[2 * number - 2:2 * number] = place
+    return Call(b''.join(texts), (laid + [0, 0])[:numbers], **others)
+
+
+# The calls.
+
+def neighbours():
+    """Two faults at once, for each two neighbours of the order."""
+    for brk in BREAKS:
+        for numbers in (0, 1, 67):
+            yield bill(numbers=numbers, count=30, brk=brk)
+        for count in (30, 35):
+            yield bill(places={1: OUTSIDE}, count=count, brk=brk)
+        yield bill({1: b'SPC\n'}, {31: OUTSIDE}, brk=brk)
+        yield bill({1: b'SPD', 31: b'EPD\r'}, brk=brk)
+        yield bill({2: b'\x00', 6: 998 * b'a', 31: b'EPD\n'}, brk=brk)
+        for wrong in ({1: b'SPD'}, {30: b'\x00'}, {6: 998 * b'a'}, {4: b'CH5800791123000889013'}):
+            yield bill(wrong, brk=brk, room=0)
+            yield bill(wrong, brk=brk, room=BASE_LENGTHS[brk] - 1)
+
+
+def reader_refusals():
+    """A fault of each kind that the reader finds in lines, with no room and with enough."""
+    for lines in ({31: b'EPE'}, {12: b'x'}, {20: b''}, {8: 17 * b'4'}, {19: b'0.00'},
+                  {29: b'RF19539007547034'}, {4: b'CH6431961000004421557'},
+                  {30: 137 * b'm', 32: b'//S1'}):
+        for room in (0, 300):
+            yield bill(lines, count=max(31, *lines), room=room)
+
+
+def far_apart():
+    """Two faults that are no neighbours of the order, and all of them at once."""
+    stray, wrong = {31: b'EPD\n'}, {1: b'SPD'}
+    yield bill(numbers=67, places={1: OUTSIDE})
+    yield bill(stray, numbers=67)
+    yield bill(numbers=67, room=0)
+    yield bill(stray, count=30)
+    yield bill(count=35, room=0)
+    yield bill(wrong, {31: OUTSIDE})
+    yield bill(places={31: OUTSIDE}, room=0)
+    yield bill(stray, room=0)
+    for numbers, count in ((67, 30), (68, 30), (68, 31)):
+        yield bill(stray | wrong, {7: OUTSIDE}, numbers=numbers, count=count, room=0)
+
+
+def lists_and_counts():
+    """Lists and counts about their limits; places past the count that would be wrong."""
+    for numbers in (66, 67, 68, 69, 70):
+        yield bill(numbers=numbers)
+    last = {32: b'//S1', 33: b'a', 34: b'b'}
+    for count in (0, 1, 30, 31, 32, 33, 34, 35, 36, 255, 256, 65535):
+        yield bill(count=count)
+        yield bill(last, count=count)
+    for number in (32, 33, 34):
+        yield bill(last, {n: GARBAGE for n in range(number, 35)}, count=number - 1)
+        yield bill(last, {n: GARBAGE for n in range(number, 35)}, count=number)
+
+
+def rooms():
+    """Destinations of no bytes, of one byte too few, of exactly enough and of more."""
+    for brk, length in BASE_LENGTHS.items():
+        for room in (0, 1, length - 1, length, length + 1, length + 40, 997, MOST_ROOM):
+            yield bill(brk=brk, room=room)
+
+
+def places_in_the_text():
+    """Places at the end of the text and past it, over each other, and in another order."""
+    length = len(bill().text)
+    for start, size in ((length, 0), (length + 1, 0), (length - 3, 3), (length - 3, 4), (length, 1),
+                        (1, 65535), (65535, 1), (65535, 65535), (32768, 32768), (65535, 0)):
+        for number in (1, 30, 31):
+            yield bill(places={number: (start, size)})
+    name = bill().places[10:12]
+    yield bill(places={number: name for number in (6, 7, 10)})
+    yield bill(places={6: (0, 40), 7: (10, 40), 10: (20, 10), 30: (0, length)})
+    yield bill(places={number: (0, 0) for number in range(12, 19)})
+    yield bill(places={number: (0, length) for number in range(1, 32)})
+    for brk in BREAKS:
+        yield backwards(brk)
+
+
+def backwards(brk):
+    """The base bill whose last line comes first in the text."""
+    texts = BASE.split(b'|')
+    laid = []
+    for number, text in enumerate(texts):
+        laid += [len(b''.join(texts[number + 1:])), len(text)]
+    return Call(b''.join(reversed(texts)), laid + 6 * [0], brk=brk)
+
+
+def stray_breaks():
+    """CR, LF and both at the front, in the middle and at the end of lines; two such lines."""
+    for brk in BREAKS:
+        for number in (1, 6, 12, 31):
+            for stray in (b'\r', b'\n', b'\r\n'):
+                for front, back in ((b'', b'ab'), (b'a', b'b'), (b'ab', b'')):
+                    yield bill({number: front + stray + back}, brk=brk, room=40)
+        yield bill({8: b'\n', 7: b'\r'}, brk=brk)
+        yield bill({32: b'//S1\n'}, count=31, brk=brk)
+        yield bill({32: b'//S1\n'}, count=32, brk=brk)
+
+
+def lengths():
+    """Joined bytes of 996, 997 and 998, and far more than a bill may have."""
+    for brk in BREAKS:
+        spare = 997 - (len(bill(LONGEST).text) + 33 * len(BREAKS[brk]))
+        for more in (-1, 0, 1):
+            yield long_bill(spare + more, brk)
+    text = 4000 * b'a'
+    for brk in BREAKS:
+        yield Call(text, 34 * [0, 4000], 34, brk)
+        yield Call(text, 34 * [0, 30], 34, brk)
+        yield Call(text + b'\n', 33 * [0, 4000] + [0, 4001], 34, brk)
+
+
+def long_bill(more, brk):
+    """The longest lines and so many bytes more, or less: a letter of two bytes for one of one
+    byte adds a byte and no character."""
+    lines = dict(LONGEST)
+    if more < 0:
+        lines[34] = lines[34][:more]
+    for number in (34, 33):
+        wider = max(0, min(more, len(lines[number])))
+        lines[number] = wider * 'ü'.encode() + lines[number][wider:]
+        more -= wider
+    return bill(lines, count=34, brk=brk, room=1000)
+
+
+def round_trips():
+    """Every accepted case, written again from its own places."""
+    for case in read_cases(TESTS / 'cases'):
+        told = read(case.payload)
+        if isinstance(told, Accepted):
+            yield Call(case.payload, told.places, told.lines, told.brk, len(case.payload) + 2)
+
+
+DAMAGED = 240
+SPOILERS = (0x00, 0x0A, 0x0D, 0x20, 0x30, 0x41, 0x7F, 0x80, 0xC3, 0xE2, 0xFF)
+
+
+def damaged_bills():
+    """Bills with a number or two of the list changed, bytes of the text changed, or both."""
+    draw = Random(15)
+
+    def below(n):
+        return int(draw.random() * n)
+
+    for turn in range(DAMAGED):
+        brk = 'LF' if below(2) else 'CRLF'
+        whole = bill(brk=brk, count=31 + below(2), room=BASE_LENGTHS[brk] - 2 + below(6))
+        text, places = bytearray(whole.text), list(whole.places)
+        for _ in range(turn % 3):
+            text[below(len(text))] = SPOILERS[below(len(SPOILERS))]
+        for _ in range(below(3) if turn % 3 else 1):
+            places[below(64)] = below(12) if below(2) else below(len(text) + 2)
+        yield whole._replace(text=bytes(text), places=places)
+
+
+def calls():
+    """All calls, in the order in which they are stored."""
+    for some in (neighbours, reader_refusals, far_apart, lists_and_counts, rooms,
+                 places_in_the_text, stray_breaks, lengths, round_trips, damaged_bills):
+        yield from some()
+
+
+# The command.
+
+def two_bytes(number):
+    """A number as it is stored."""
+    return number.to_bytes(2, 'little')
+
+
+def framed(call):
+    """A call as it is stored."""
+    head = [call.count, 1 + list(BREAKS).index(call.brk), call.room, len(call.places)]
+    record = b''.join(map(two_bytes, head + call.places)) + call.text
+    return two_bytes(len(record)) + record
+
+
+def stored_records(content):
+    """The records of a stored input, each as it is stored; what is left over is one more."""
+    while content:
+        end = 2 + int.from_bytes(content[:2], 'little')
+        yield content[:end]
+        content = content[end:]
+
+
+def checks(made):
+    """Each check as its name, what should be there, and what is."""
+    stdin, stdout = ((CRATE / name).read_bytes() for name in ('stdin', 'stdout'))
+    stored = zip_longest(stored_records(stdin), stdout.splitlines(keepends=True))
+    expected = [(framed(call), line) for call, line in made]
+    for number, (case, got) in enumerate(zip_longest(expected, stored), start=1):
+        yield f'record {number}', case, got
+    yield 'input that the program can hold', True, len(stdin) <= MOST_INPUT
+    numbers = max(len(call.places) for call, _ in made)
+    yield 'lists that the program can hold', True, numbers <= MOST_NUMBERS
+    room = max(call.room for call, _ in made)
+    yield 'destinations that the program can hold', True, room <= MOST_ROOM
+
+
+def check(made):
+    """Count and print; the exit status is 1 if anything failed."""
+    passed = failed = 0
+    for name, expected, got in checks(made):
+        if expected == got:
+            passed += 1
+        else:
+            failed += 1
+            print(f'{name}: expected {expected}, got {got}')
+    print(f'{passed} passed, {failed} failed')
+    return 1 if failed else 0
+
+
+def main():
+    """Write the two files, or check them."""
+    made = [(call, answer(call)) for call in calls()]
+    if sys.argv[1:] == ['--check']:
+        return check(made)
+    (CRATE / 'stdin').write_bytes(b''.join(framed(call) for call, _ in made))
+    (CRATE / 'stdout').write_bytes(b''.join(line for _, line in made))
+    return 0
+
+
+if __name__ == '__main__':
+    sys.exit(main())
