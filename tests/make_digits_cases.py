@@ -17,6 +17,7 @@ from string import ascii_letters, ascii_uppercase, digits
 
 from reference.qrbill import (NEXT_CARRY, is_creditor_reference, is_iban, mod_97_10_holds,
                               qr_check_digit_holds)
+from stored import store, told
 
 CRATE = Path(__file__).resolve().parent.parent / 'crates' / 'digits_cases'
 MOST_BYTES = 100  # of a text
@@ -188,27 +189,12 @@ def checks(made):
             yield f'{name} by the reference', qr_check_digit_holds(name), last_digit_holds(text)
 
 
-def check(made):
-    """Count and print; the exit status is 1 if anything failed."""
-    passed = failed = 0
-    for name, expected, got in checks(made):
-        if expected == got:
-            passed += 1
-        else:
-            failed += 1
-            print(f'{name}: expected {expected}, got {got}')
-    print(f'{passed} passed, {failed} failed')
-    return 1 if failed else 0
-
-
 def main():
     """Write the two files, or check them."""
     made = [(text, answer(text)) for text in texts()]
     if sys.argv[1:] == ['--check']:
-        return check(made)
-    (CRATE / 'stdin').write_bytes(b''.join(text + b'\n' for text, _ in made))
-    (CRATE / 'stdout').write_bytes(b''.join(line for _, line in made))
-    return 0
+        return told(checks(made))
+    return store(CRATE, (text + b'\n' for text, _ in made), (line for _, line in made))
 
 
 if __name__ == '__main__':

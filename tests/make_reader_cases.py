@@ -14,6 +14,7 @@ from pathlib import Path
 
 from casefile import read_cases
 from reference.qrbill import LIST_NUMBERS, Accepted, read
+from stored import store, told
 
 TESTS = Path(__file__).resolve().parent
 CRATE = TESTS.parent / 'crates' / 'reader_cases'
@@ -66,28 +67,19 @@ def stored():
     return zip_longest(records, (CRATE / 'stdout').read_bytes().splitlines(keepends=True))
 
 
-def check():
-    """Count and print; the exit status is 1 if anything failed."""
-    passed = failed = 0
+def checks():
+    """Each check as its name, what should be there, and what is."""
     for made, got in zip_longest(make(), stored()):
         name, expected = made or ('past the last case', None)
-        if expected == got:
-            passed += 1
-        else:
-            failed += 1
-            print(f'{name}: expected {expected}, got {got}')
-    print(f'{passed} passed, {failed} failed')
-    return 1 if failed else 0
+        yield name, expected, got
 
 
 def main():
     """Write the two files, or check them."""
     if sys.argv[1:] == ['--check']:
-        return check()
+        return told(checks())
     records, lines = zip(*(pair for _, pair in make()))
-    (CRATE / 'stdin').write_bytes(b''.join(records[::len(LIST_SIZES)]))
-    (CRATE / 'stdout').write_bytes(b''.join(lines))
-    return 0
+    return store(CRATE, records[::len(LIST_SIZES)], lines)
 
 
 if __name__ == '__main__':

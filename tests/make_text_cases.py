@@ -16,6 +16,7 @@ from pathlib import Path
 from random import Random
 
 from reference.qrbill import first_bad_place, line_of_unlike_break
+from stored import store, told
 
 CRATE = Path(__file__).resolve().parent.parent / 'crates' / 'text_cases'
 MOST_INPUT = 65536  # the program holds no more
@@ -184,27 +185,12 @@ def checks(made):
     yield 'input that the program can hold', True, len(stdin) <= MOST_INPUT
 
 
-def check(made):
-    """Count and print; the exit status is 1 if anything failed."""
-    passed = failed = 0
-    for name, expected, got in checks(made):
-        if expected == got:
-            passed += 1
-        else:
-            failed += 1
-            print(f'{name}: expected {expected}, got {got}')
-    print(f'{passed} passed, {failed} failed')
-    return 1 if failed else 0
-
-
 def main():
     """Write the two files, or check them."""
     made = [(record, answer(record)) for record in records()]
     if sys.argv[1:] == ['--check']:
-        return check(made)
-    (CRATE / 'stdin').write_bytes(b''.join(framed(record) for record, _ in made))
-    (CRATE / 'stdout').write_bytes(b''.join(line for _, line in made))
-    return 0
+        return told(checks(made))
+    return store(CRATE, (framed(record) for record, _ in made), (line for _, line in made))
 
 
 if __name__ == '__main__':

@@ -17,6 +17,7 @@ from typing import NamedTuple
 
 from casefile import read_cases
 from reference.qrbill import BREAKS, Accepted, Refused, first_bad_place, read, write
+from stored import store, told
 
 TESTS = Path(__file__).resolve().parent
 CRATE = TESTS.parent / 'crates' / 'writer_cases'
@@ -295,27 +296,12 @@ def checks(made):
     yield 'destinations that the program can hold', True, room <= MOST_ROOM
 
 
-def check(made):
-    """Count and print; the exit status is 1 if anything failed."""
-    passed = failed = 0
-    for name, expected, got in checks(made):
-        if expected == got:
-            passed += 1
-        else:
-            failed += 1
-            print(f'{name}: expected {expected}, got {got}')
-    print(f'{passed} passed, {failed} failed')
-    return 1 if failed else 0
-
-
 def main():
     """Write the two files, or check them."""
     made = [(call, answer(call)) for call in calls()]
     if sys.argv[1:] == ['--check']:
-        return check(made)
-    (CRATE / 'stdin').write_bytes(b''.join(framed(call) for call, _ in made))
-    (CRATE / 'stdout').write_bytes(b''.join(line for _, line in made))
-    return 0
+        return told(checks(made))
+    return store(CRATE, (framed(call) for call, _ in made), (line for _, line in made))
 
 
 if __name__ == '__main__':
