@@ -11,12 +11,12 @@ answers with the reference's. It prints a line for each failure and at the end
 
 import re
 import sys
-from itertools import product, zip_longest
+from itertools import product
 from pathlib import Path
 from random import Random
 
 from reference.qrbill import first_bad_place, line_of_unlike_break
-from stored import store, told
+from stored import compared, store, told
 
 CRATE = Path(__file__).resolve().parent.parent / 'crates' / 'text_cases'
 MOST_INPUT = 65536  # the program holds no more
@@ -160,21 +160,9 @@ def framed(record):
     return len(record).to_bytes(2, 'little') + record
 
 
-def stored_records(content):
-    """The records of a stored input, each as it is stored; what is left over is one more."""
-    while content:
-        end = 2 + int.from_bytes(content[:2], 'little')
-        yield content[:end]
-        content = content[end:]
-
-
 def checks(made):
     """Each check as its name, what should be there, and what is."""
-    stdin, stdout = ((CRATE / name).read_bytes() for name in ('stdin', 'stdout'))
-    stored = zip_longest(stored_records(stdin), stdout.splitlines(keepends=True))
-    expected = [(framed(record), line) for record, line in made]
-    for number, (case, got) in enumerate(zip_longest(expected, stored), start=1):
-        yield f'record {number}', case, got
+    yield from compared(CRATE, ((framed(record), line) for record, line in made))
     for number, (record, _) in enumerate(made, start=1):
         place = first_bad_place(record)
         walk = walk_answer(record)
@@ -182,7 +170,7 @@ def checks(made):
         line = line_of_unlike_break(record)
         kind, count = breaks_answer(record)
         yield f'record {number}: first unlike break', line, None if kind else count
-    yield 'input that the program can hold', True, len(stdin) <= MOST_INPUT
+    yield 'input that the program can hold', True, (CRATE / 'stdin').stat().st_size <= MOST_INPUT
 
 
 def main():

@@ -10,14 +10,13 @@ line for each failure and at the end `N passed, M failed`.
 """
 
 import sys
-from itertools import zip_longest
 from pathlib import Path
 from random import Random
 from typing import NamedTuple
 
 from casefile import read_cases
 from reference.qrbill import BREAKS, Accepted, Refused, first_bad_place, read, write
-from stored import store, told
+from stored import compared, store, told
 
 TESTS = Path(__file__).resolve().parent
 CRATE = TESTS.parent / 'crates' / 'writer_cases'
@@ -274,22 +273,10 @@ def framed(call):
     return two_bytes(len(record)) + record
 
 
-def stored_records(content):
-    """The records of a stored input, each as it is stored; what is left over is one more."""
-    while content:
-        end = 2 + int.from_bytes(content[:2], 'little')
-        yield content[:end]
-        content = content[end:]
-
-
 def checks(made):
     """Each check as its name, what should be there, and what is."""
-    stdin, stdout = ((CRATE / name).read_bytes() for name in ('stdin', 'stdout'))
-    stored = zip_longest(stored_records(stdin), stdout.splitlines(keepends=True))
-    expected = [(framed(call), line) for call, line in made]
-    for number, (case, got) in enumerate(zip_longest(expected, stored), start=1):
-        yield f'record {number}', case, got
-    yield 'input that the program can hold', True, len(stdin) <= MOST_INPUT
+    yield from compared(CRATE, ((framed(call), line) for call, line in made))
+    yield 'input that the program can hold', True, (CRATE / 'stdin').stat().st_size <= MOST_INPUT
     numbers = max(len(call.places) for call, _ in made)
     yield 'lists that the program can hold', True, numbers <= MOST_NUMBERS
     room = max(call.room for call, _ in made)

@@ -1,5 +1,7 @@
 """Stored inputs and outputs of the programs that run the code, as the scripts make and check them."""
 
+from itertools import zip_longest
+
 
 def told(checks):
     """Count and print checks, each a name, what should be there and what is; the exit status is 1
@@ -13,6 +15,23 @@ def told(checks):
             print(f'{name}: expected {expected}, got {got}')
     print(f'{passed} passed, {failed} failed')
     return 1 if failed else 0
+
+
+def records(content):
+    """The records of a stored input, each two bytes of length, the low one first, and that many
+    bytes; what is left over is one more."""
+    while content:
+        end = 2 + int.from_bytes(content[:2], 'little')
+        yield content[:end]
+        content = content[end:]
+
+
+def compared(crate, made):
+    """A check for each record and the line of output that belongs to it: as made, and as stored."""
+    stdin, stdout = ((crate / name).read_bytes() for name in ('stdin', 'stdout'))
+    kept = zip_longest(records(stdin), stdout.splitlines(keepends=True))
+    for number, (expected, got) in enumerate(zip_longest(made, kept), start=1):
+        yield f'record {number}', expected, got
 
 
 def store(crate, inputs, outputs):
