@@ -9,7 +9,6 @@ use lib.Dec.{eqb, ltb, lit≤}
 use lib.ListN.{length, take, length-map, length-append, length-take}
 use borrow.Author.Tests.{ltb-true, ltb-false}
 use Rattle.sieve.specs.declared.Break.{Break}
-use Rattle.sieve.specs.declared.Break.the-variants.{Lf, CrLf}
 use Rattle.sieve.specs.declared.Fault.{Fault}
 use Rattle.sieve.specs.declared.Fault.the-variants.{NoBytes, TooManyBytes, BadCharacter, MixedBreaks, LineCount, NotFixedText, NotEmpty, Missing, TooLong, BadForm, BadCheckDigits, Unpaired, TooLongTogether, OutsideText, NoRoom}
 use Rattle.sieve.specs.Bytes.{Bytes, within, firstSuch}
@@ -18,6 +17,7 @@ use Rattle.sieve.specs.Characters.{badPlace, lineFeeds}
 use Rattle.sieve.specs.Rules.{Rule}
 use Rattle.sieve.specs.Paper.{paperFault}
 use Rattle.sieve.specs.Verdict.{Refusal, under, underAt, found, accepted, refused, noBytes, badCharacter, mixedBreaks, lineCount, aboutLines, findings, first, verdict}
+use Rattle.sieve.proofs.Cutting.{break-length}
 use Rattle.sieve.proofs.DemandThree.{any-bytes}
 use Rattle.sieve.proofs.Findings.{settled-refuses, verdict-is, such-at}
 use Rattle.swiss.specs.Limits.{mostBytes, fewestLines, mostLines}
@@ -62,17 +62,13 @@ rules-low ls (q ∷ rs) h =
 
 -- a payload has no more breaks than bytes
 
-break-there : (k : Break) → 1 ≤ length (breakBytes k)
-break-there Lf = omega arith
-break-there CrLf = omega arith
-
 few-after : (ns : List Next) → length ns ≤ length (gluedAfter ns)
 few-after [] = omega arith
 few-after (n ∷ ns) =
     omega (
       arith,
       few-after ns,
-      break-there (n .break),
+      break-length (n .break),
       length-append (breakBytes (n .break)) (n .line ++ gluedAfter ns),
       length-append (n .line) (gluedAfter ns),
     )

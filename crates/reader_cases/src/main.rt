@@ -7,11 +7,10 @@ use libc::STDIN_FILENO;
 use libc::STDOUT_FILENO;
 use sieve::Answer;
 use sieve::Break;
-use sieve::Fault;
-ghost use mathlib.Core.Path.{_≡_};
+use sieve::line_of;
+use sieve::number_of;
 ghost use Prim.Native.Nat.{_≤_, _<_};
 ghost use lib.ListN.{length};
-ghost use Rattle.sieve.specs.Paper.{paperFault};
 
 const FIRST_MARK: u16 = 60000;
 
@@ -38,31 +37,6 @@ fn is_marked(list: &[u16]) -> bool
     true
 }
 
-// The paper's number of a refusal, and the line that it gives.
-struct Refusal(u64, usize);
-
-fn refusal_of(fault: Fault) -> Refusal
-    ensures { λ r. ⌜ (r .0 ≡ paperFault fault .number) × (r .1 ≡ paperFault fault .line) ⌝ }
-{
-    match fault {
-        Fault::NoBytes => Refusal(1, 0),
-        Fault::TooManyBytes => Refusal(2, 0),
-        Fault::BadCharacter(line, _) => Refusal(3, line),
-        Fault::MixedBreaks(line) => Refusal(4, line),
-        Fault::LineCount(count) => Refusal(5, count),
-        Fault::NotFixedText(line) => Refusal(6, line),
-        Fault::NotEmpty(line) => Refusal(7, line),
-        Fault::Missing(line) => Refusal(8, line),
-        Fault::TooLong(line) => Refusal(9, line),
-        Fault::BadForm(line) => Refusal(10, line),
-        Fault::BadCheckDigits(line) => Refusal(11, line),
-        Fault::Unpaired(line) => Refusal(12, line),
-        Fault::TooLongTogether(line) => Refusal(13, line),
-        Fault::OutsideText(line) => Refusal(14, line),
-        Fault::NoRoom => Refusal(15, 0),
-    }
-}
-
 fn kind_of(k: Break) -> u64 {
     match k {
         Break::Lf => 1,
@@ -83,9 +57,8 @@ fn write_answer(answer: Answer) {
             write_next(kind_of(k));
         }
         Answer::Refused(fault) => {
-            let r = refusal_of(fault);
-            io::print_decimal(STDOUT_FILENO, r.0);
-            write_next(r.1 as u64);
+            io::print_decimal(STDOUT_FILENO, number_of(fault) as u64);
+            write_next(line_of(fault) as u64);
         }
     }
 }

@@ -1,8 +1,10 @@
 -- Cutting and writing undo each other. Assumes nothing.
-use Prim.Native.Nat.{ℕ}
+use Prim.Native.Nat.{ℕ, _≤_}
 use mathlib.Core.List.{List, [], _∷_, _++_, map, append-nil, List·Memᴰ, List·Memᴰ·head, List·Memᴰ·tail}
 use mathlib.Core.Logic.{_≢_}
 use mathlib.Core.Path.{_≡_, refl, _∙_, ap}
+use lib.Dec.{lit≤}
+use lib.ListN.{length}
 use borrow.Author.Tests.{ne-eqb}
 use Rattle.sieve.specs.declared.Break.the-variants.{Lf, CrLf}
 use Rattle.sieve.specs.Lawful.{Clean, one-more}
@@ -48,3 +50,8 @@ cut-after k (l ∷ ls) h = rw (cut-break k (l ++ afterBreaks k ls), cut-clean l 
 
 pub cut-joined : (k : Break) (l : Bytes) (ls : List Bytes) → Each Clean (l ∷ ls) → cut (joined k (l ∷ ls)) ≡ record { first = l; rest = nexts k ls }
 cut-joined k l ls h = rw (cut-clean l (afterBreaks k ls) (h l (List·Memᴰ·head refl)), cut-after k ls (λ l m. h l (List·Memᴰ·tail m)), append-nil)
+
+-- a break is of one byte or two
+pub break-length : (k : Break) → (1 ≤ length (breakBytes k)) × (length (breakBytes k) ≤ 2)
+break-length Lf = (lit≤ tt, lit≤ tt)
+break-length CrLf = (lit≤ tt, lit≤ tt)

@@ -17,7 +17,7 @@ use Rattle.sieve.specs.Keeps.{Keeps}
 use Rattle.sieve.specs.Demand.{Is}
 use Rattle.sieve.specs.Places.{placed, placesOf, listSize}
 use Rattle.sieve.specs.Paper.{laid, not-laid}
-use Rattle.sieve.specs.Writing.{Span, spans, part, handed, writeFindings, laidOnto, writeAnswer}
+use Rattle.sieve.specs.Writing.{outside, Span, spans, part, handed, writeFindings, laidOnto, writeAnswer}
 use Rattle.sieve.proofs.Accepts.{within-both, clean-read-back, read-back}
 use Rattle.sieve.proofs.Findings.{found-none, each-none, first-nil, none-first, settled-accepts, verdict-is}
 use Rattle.sieve.proofs.Placing.{span, spans-of, length-placed, list-length, places-cut-out}
@@ -72,11 +72,11 @@ module _ (L : Layout) (text : Bytes) (list : List ℕ) (count : ℕ) (k : Break)
         (v, back, accepted-keeps L laws two b count k back v)
 
 -- places that lie inside a text of n bytes
-abbrev pub Inside : ℕ → List Span → Type 0
-Inside n places = firstSuch (λ s. ltb n (s .start + s .bytes)) 1 places ≡ none
+abbrev pub NoneOutside : ℕ → List Span → Type 0
+NoneOutside n places = firstSuch (outside n) 1 places ≡ none
 
 -- the lines of a bill lie inside what it is written as
-inside-written : (k : Break) (ls : List Bytes) (at i n : ℕ) → at + length (joined k ls) ≤ n → firstSuch (λ s. ltb n (s .start + s .bytes)) i (map span (placed at k ls)) ≡ none
+inside-written : (k : Break) (ls : List Bytes) (at i n : ℕ) → at + length (joined k ls) ≤ n → firstSuch (outside n) i (map span (placed at k ls)) ≡ none
 unfolding firstSuch placed
 inside-written k [] at i n h = refl
 inside-written k (l ∷ []) at i n h = rw (le-ltb n (at + length l) (omega (arith, length-append l [])), firstSuch)
@@ -88,7 +88,7 @@ inside-written k (l ∷ m ∷ ls) at i n h =
 
 module _ (L : Layout) (laws : (ls : List Bytes) → Lawful (L .width ls)) (two : 2 ≤ L .fewest-lines) where
   module _ (b : Bill) (text : Bytes) (list : List ℕ) (dest : Bytes) (keeps : Keeps L b) (size : listSize L ≤ length list) (lines : handed text list (length (b .lines)) ≡ b .lines)
-      (inside : Inside (length text) (spans (length (b .lines)) list)) (room : length (written b) ≤ length dest) where
+      (inside : NoneOutside (length text) (spans (length (b .lines)) list)) (room : length (written b) ≤ length dest) where
     nothing-found : first (writeFindings L text list (length (b .lines)) (b .break) (length dest)) ≡ none
     unfolding writeFindings written
     nothing-found =

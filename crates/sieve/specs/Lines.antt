@@ -1,6 +1,6 @@
 -- Bills, and lines: how a bill is written as bytes, and how any bytes are cut into lines. Assumes nothing.
 use Prim.Native.Nat.{ℕ}
-use mathlib.Core.Bool.{Bool, true, false, cond, _&&_}
+use mathlib.Core.Bool.{Bool, true, false, cond, _&&_, _||_}
 use mathlib.Core.List.{List, [], _∷_, _++_, map}
 use lib.Dec.{eqb}
 use lib.ListN.{getD}
@@ -16,6 +16,10 @@ pub record Bill : Type 0 where
 abbrev pub breakBytes : Break → Bytes
 breakBytes Lf = 10 ∷ []
 breakBytes CrLf = 13 ∷ 10 ∷ []
+
+-- the bytes that breaks are made of
+abbrev pub ofBreak : ℕ → Bool
+ofBreak x = eqb x 10 || eqb x 13
 
 -- lines, each with a break before it
 abbrev pub afterBreaks : Break → List Bytes → Bytes

@@ -1,13 +1,13 @@
 -- The writer's whole answer for any text, list of places, count, break and destination, and what the destination then holds. Assumes nothing.
 use Prim.Native.Nat.{ℕ, zero, suc, _+_}
-use mathlib.Core.Bool.{_||_, not}
+use mathlib.Core.Bool.{Bool, not}
 use mathlib.Core.List.{List, [], _∷_, _++_, map}
 use mathlib.Core.Option.{Option, some, none, Option·map}
-use lib.Dec.{eqb, ltb}
+use lib.Dec.{ltb}
 use lib.ListN.{getD, take, drop, length}
 use Rattle.sieve.specs.declared.Break.{Break}
 use Rattle.sieve.specs.Bytes.{Bytes, within, firstSuch}
-use Rattle.sieve.specs.Lines.{joined}
+use Rattle.sieve.specs.Lines.{ofBreak, joined}
 use Rattle.sieve.specs.Rules.{Layout}
 use Rattle.sieve.specs.Verdict.{Refusal, under, underAt, found, findings, first}
 use Rattle.sieve.specs.Paper.{Laying, laid, not-laid}
@@ -32,14 +32,18 @@ part text s = take (s .bytes) (drop (s .start) text)
 unfoldable pub handed : Bytes → List ℕ → ℕ → List Bytes
 handed text list count = map (part text) (spans count list)
 
+-- a place lies outside a text of so many bytes
+abbrev pub outside : ℕ → Span → Bool
+outside size s = ltb size (s .start + s .bytes)
+
 -- 14: a line's place lies outside the text
 abbrev pub outsideText : Bytes → List Span → Option Refusal
-outsideText text places = Option·map (under 14) (firstSuch (λ s. ltb (length text) (s .start + s .bytes)) 1 places)
+outsideText text places = Option·map (under 14) (firstSuch (outside (length text)) 1 places)
 
 -- 3: CR or LF in a line; that line, and the byte's place in the joined bytes
 unfoldable pub strayBreak : ℕ → List Placed → Option Refusal
 strayBreak i [] = none
-strayBreak i (l ∷ ls) = elim (firstSuch (λ x. eqb x 10 || eqb x 13) (l .start) (l .text)) [ some at ↦ some (underAt 3 i at) | none ↦ strayBreak (suc i) ls ]
+strayBreak i (l ∷ ls) = elim (firstSuch ofBreak (l .start) (l .text)) [ some at ↦ some (underAt 3 i at) | none ↦ strayBreak (suc i) ls ]
 
 -- what the writer finds, in its order: the list, the count, places, stray breaks, what the reader finds in the joined bytes, room
 unfoldable pub writeFindings : Layout → Bytes → List ℕ → ℕ → Break → ℕ → List (Option Refusal)

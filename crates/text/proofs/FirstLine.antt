@@ -14,7 +14,7 @@ use Rattle.sieve.specs.Bytes.{Bytes}
 use Rattle.sieve.specs.Lines.{breakBytes, cut}
 use Rattle.sieve.specs.Characters.{breakWidth}
 use Rattle.sieve.proofs.Heads.{Head, lf, crlf, other, head}
-use Rattle.text.specs.Results.{ofBreak}
+use Rattle.sieve.specs.Lines.{ofBreak}
 use Rattle.text.proofs.ByteByByte.{next}
 
 -- a line with nothing after it; or a line, a break, and the bytes after that

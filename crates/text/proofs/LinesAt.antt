@@ -10,6 +10,7 @@ use lib.Seq.{drop-drop, drop-length, drop-append-seam}
 use Rattle.sieve.specs.declared.Break.{Break}
 use Rattle.sieve.specs.declared.Break.the-variants.{Lf, CrLf}
 use Rattle.sieve.specs.Bytes.{Bytes}
+use Rattle.sieve.proofs.Cutting.{break-length}
 use Rattle.sieve.specs.Lines.{Next, breakBytes, cut}
 use Rattle.sieve.specs.Characters.{breakWidth}
 use Rattle.text.specs.declared.LineAt.{LineAt}
@@ -27,8 +28,7 @@ width-of Lf s = refl
 width-of CrLf s = refl
 
 pub some-width : (k : Break) → length (breakBytes k) ≢ 0
-some-width Lf e = omega arith
-some-width CrLf e = omega arith
+some-width k e = omega (arith, break-length k)
 
 -- some bytes as what a break parts from the line before: the break with their first line, and their other lines
 abbrev pub behind : Break → Bytes → List Next

@@ -60,10 +60,6 @@ ofKind DigitOrCapital = digitOrCapital
 ofKind Alphanumeric = alphanumeric
 ofKind Zero = λ x. eqb x 48
 
--- the bytes that breaks are made of
-abbrev pub ofBreak : ℕ → Bool
-ofBreak x = eqb x 10 || eqb x 13
-
 -- the place of the first byte found, if one is
 abbrev pub strayAs : Option ℕ → Stray
 strayAs none = Nowhere

@@ -10,7 +10,8 @@ ghost use Rattle.sieve.specs.Lines.{breakBytes};
 ghost use Rattle.sieve.specs.Characters.{breakWidth, badPlace, characters};
 ghost use Rattle.swiss.specs.Latin.{inOne, inTwo, inThree, latin};
 ghost use Rattle.text.specs.LinesIn.{lineOf};
-ghost use Rattle.text.specs.Results.{walked, IsLineAt, IsPlaceOf, ofWidth, breaksIn, ofKind, ofBreak, strayAs};
+ghost use Rattle.text.specs.Results.{walked, IsLineAt, IsPlaceOf, ofWidth, breaksIn, ofKind, strayAs};
+ghost use Rattle.sieve.specs.Lines.{ofBreak};
 ghost use Rattle.text.specs.Laid.{withBreak, room, laid};
 
 // The byte `k` places after `at`, and 0 past the end.
@@ -350,7 +351,7 @@ fn lay_break(dest: &mut [u8], k: Break) -> usize
 }
 
 // How many bytes a break has.
-fn break_length(k: Break) -> usize
+pub fn break_length(k: Break) -> usize
     ensures { λ r. ⌜ r ≡ length (breakBytes k) ⌝ }
 {
     match k {

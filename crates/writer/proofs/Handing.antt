@@ -13,15 +13,15 @@ use lib.Seq.{getD-drop, drop-drop, take-add, take-at, drop-at, take-append-seam,
 use borrow.Rule.Slice.PartMut.{midOf, putMid}
 use borrow.Author.Tests.{lt-ltb, le-ltb, ltb-true, ltb-false}
 use Rattle.sieve.specs.declared.Break.{Break}
-use Rattle.sieve.specs.declared.Break.the-variants.{Lf, CrLf}
 use Rattle.sieve.specs.Bytes.{Bytes, firstSuch}
 use Rattle.sieve.specs.Lines.{breakBytes, afterBreaks, joined}
 use Rattle.sieve.specs.Verdict.{Refusal, underAt}
 use Rattle.sieve.specs.Places.{placed}
 use Rattle.sieve.proofs.Findings.{such-at}
-use Rattle.sieve.specs.Writing.{spans, handed, strayBreak}
+use Rattle.sieve.specs.Writing.{outside, spans, handed, strayBreak}
 use Rattle.text.specs.declared.Stray.the-variants.{Nowhere, At}
-use Rattle.text.specs.Results.{ofBreak, strayAs}
+use Rattle.text.specs.Results.{strayAs}
+use Rattle.sieve.specs.Lines.{ofBreak}
 use Rattle.text.specs.Laid.{withBreak, room, laid}
 use Rattle.text.proofs.Lays.{tail-room, tail-laid}
 use Rattle.writer.specs.Handing.{spanAt, lineAt, breakIf, firstOutside, Inside}
@@ -49,7 +49,7 @@ no-line text list count i h = let z : count - i ≡ 0 = omega arith in rw z
 
 module _ (text : Bytes) (list : List ℕ) (count : ℕ) where
   abbrev pub outsideFrom : ℕ → Option ℕ
-  outsideFrom i = firstSuch (λ s. ltb (length text) (s .start + s .bytes)) (i + 1) (spans (count - i) (drop (2 * i) list))
+  outsideFrom i = firstSuch (outside (length text)) (i + 1) (spans (count - i) (drop (2 * i) list))
 
   pub outside-here : (i : ℕ) → i < count → length text < getD list (2 * i) 0 + getD list (2 * i + 1) 0 → outsideFrom i ≡ some (i + 1)
   unfolding firstSuch
@@ -94,14 +94,9 @@ shifted f a i (x ∷ l) = go (f x) refl (shifted f a (suc i) l)
     go true e ih = rw (e, firstSuch)
     go false e ih = let n : suc (a + i) ≡ a + suc i = omega arith in rw (e, n, firstSuch) ih
 
--- a line is no longer than its entry says, and a break is of one byte or two
-
+-- a line is no longer than its entry says
 pub line-short : (text : Bytes) (list : List ℕ) (i : ℕ) → length (lineAt text list i) ≤ getD list (2 * i + 1) 0
 line-short text list i = rw (length-take (getD list (2 * i + 1) 0) (drop (getD list (2 * i) 0) text)) (omega arith)
-
-pub break-short : (k : Break) → (1 ≤ length (breakBytes k)) × (length (breakBytes k) ≤ 2)
-break-short Lf = (omega arith, omega arith)
-break-short CrLf = (omega arith, omega arith)
 
 -- what stray_break's answer says of the line
 

@@ -16,7 +16,7 @@ use Rattle.sieve.specs.Places.{placesOf}
 use Rattle.sieve.specs.Keeps.{Keeps}
 use Rattle.sieve.specs.Writing.{spans, handed}
 use Rattle.sieve.proofs.PaperLosesNothing.{one-written}
-use Rattle.sieve.proofs.WriterPromises.{handedBill, Inside, laid-written, laid-accepted, refused-unchanged, bill-laid, round-trip}
+use Rattle.sieve.proofs.WriterPromises.{handedBill, NoneOutside, laid-written, laid-accepted, refused-unchanged, bill-laid, round-trip}
 use Rattle.swiss.specs.Swiss.{swiss}
 use Rattle.swiss.proofs.Latin.{lawful}
 use Rattle.writer.specs.Writing.{IsWritten}
@@ -45,7 +45,7 @@ module _ (text : Bytes) (list : List ℕ) (count : ℕ) (k : Break) (dest after 
 
 -- a bill that keeps every rule, whose lines lie anywhere in a text by any places, is written, given room
 pub bill-is-written : (b : Bill) (text : Bytes) (list : List ℕ) (dest after : Bytes) (r : Written) → Keeps swiss b → 68 ≤ length list → handed text list (length (b .lines)) ≡ b .lines
-    → Inside (length text) (spans (length (b .lines)) list) → length (written b) ≤ length dest → IsWritten text list (length (b .lines)) (b .break) dest r after
+    → NoneOutside (length text) (spans (length (b .lines)) list) → length (written b) ≤ length dest → IsWritten text list (length (b .lines)) (b .break) dest r after
     → (r ≡ Length (length (written b))) × (after ≡ written b ++ drop (length (written b)) dest)
 unfolding swiss
 bill-is-written b text list dest after r keeps size lines inside room h =

@@ -2,11 +2,10 @@
 use Prim.Native.Nat.{ℕ, suc, _-_, _≤_, _<_}
 use native.Mathlib.Nat.{sub-zero}
 use native.Mathlib.Omega.{arith}
-use mathlib.Core.Bool.{true, false, not, _||_}
+use mathlib.Core.Bool.{true, false, not}
 use mathlib.Core.List.{List, [], _∷_, _++_}
 use mathlib.Core.Option.{Option, some, none, Option·getD, Option·none-ne-some}
 use mathlib.Core.Path.{_≡_, refl, sym, ap, _∙_}
-use lib.Dec.{eqb}
 use lib.ListN.{length, drop}
 use lib.Seq.{take-append-seam}
 use borrow.Rule.Slice.PartMut.{midOf}
@@ -16,7 +15,7 @@ use Rattle.sieve.specs.declared.Fault.{Fault}
 use Rattle.sieve.specs.declared.Fault.the-variants.{TooManyBytes, BadCharacter, LineCount, OutsideText, NoRoom}
 use Rattle.sieve.specs.declared.Written.the-variants.{Length, Refused}
 use Rattle.sieve.specs.Bytes.{Bytes, within, firstSuch}
-use Rattle.sieve.specs.Lines.{billOf}
+use Rattle.sieve.specs.Lines.{ofBreak, billOf}
 use Rattle.sieve.specs.Verdict.{Refusal, under, underAt, accepted, refused, findings, found, first, verdict}
 use Rattle.sieve.specs.Paper.{paperFault}
 use Rattle.sieve.specs.Places.{Placed, placed}
@@ -30,16 +29,16 @@ use Rattle.judge.proofs.Stages.{too-many}
 use Rattle.writer.specs.declared.Outside.the-variants.{Nowhere, At}
 use Rattle.writer.specs.declared.Measured.the-variants.{Stray, Length as Fits}
 use Rattle.writer.specs.Handing.{outsideAs, firstOutside, measuredAs, measured}
-use Rattle.writer.specs.Writing.{IsWritten, bytes, Hangs, Found, Joined, Accepted}
+use Rattle.writer.specs.Writing.{IsWritten, bytes, Reached, InText, Joined, Readable}
 use Rattle.writer.proofs.Handing.{all-inside}
 
 -- a stray break is refused under 3, with the byte's place
 stray-three : (i : ℕ) (ls : List Placed) (r : Refusal) → strayBreak i ls ≡ some r → r ≡ underAt 3 (r .line) (Option·getD (r .place) 0)
 unfolding strayBreak
 stray-three i [] r h = absurd (Option·none-ne-some r h)
-stray-three i (l ∷ ls) r h = go (firstSuch (λ x. eqb x 10 || eqb x 13) (l .start) (l .text)) refl (stray-three (suc i) ls r)
+stray-three i (l ∷ ls) r h = go (firstSuch ofBreak (l .start) (l .text)) refl (stray-three (suc i) ls r)
   where
-    go : (o : Option ℕ) → firstSuch (λ x. eqb x 10 || eqb x 13) (l .start) (l .text) ≡ o → (strayBreak (suc i) ls ≡ some r → r ≡ underAt 3 (r .line) (Option·getD (r .place) 0)) → r ≡ underAt 3 (r .line) (Option·getD (r .place) 0)
+    go : (o : Option ℕ) → firstSuch ofBreak (l .start) (l .text) ≡ o → (strayBreak (suc i) ls ≡ some r → r ≡ underAt 3 (r .line) (Option·getD (r .place) 0)) → r ≡ underAt 3 (r .line) (Option·getD (r .place) 0)
     go none e ih = ih (rw (e, strayBreak) at h)
     go (some at) e ih = let q : _≡_ {A = Option Refusal} (some (underAt 3 i at)) (some r) = rw (e, strayBreak) at h in let s : underAt 3 i at ≡ r = cc in rw (← s)
 
@@ -48,7 +47,7 @@ module _ (text : Bytes) (list : List ℕ) (count : ℕ) (k : Break) (dest : Byte
   B = bytes text list count k dest
 
   abbrev H : List (Option Refusal) → Type 0
-  H = Hangs text list count k dest
+  H = Reached text list count k dest
 
   passed : {o : Option Refusal} (os : List (Option Refusal)) → H (o ∷ os) → o ≡ none → H os
   unfolding first
@@ -106,11 +105,11 @@ module _ (text : Bytes) (list : List ℕ) (count : ℕ) (k : Break) (dest : Byte
           go none e q = let z : _≡_ {A = ℕ} 0 1 = cc in absurd (omega arith)
           go (some j) e q = let same : i ≡ j = cc in stopped lineFindings (OutsideText i) at-places (rw (e, same))
 
-      pub places-inside : Nowhere ≡ outsideAs (firstOutside text list count) → Found text list count k dest
+      pub places-inside : Nowhere ≡ outsideAs (firstOutside text list count) → InText text list count k dest
       unfolding firstOutside
       places-inside h = go (firstOutside text list count) refl h
         where
-          go : (o : Option ℕ) → firstOutside text list count ≡ o → Nowhere ≡ outsideAs o → Found text list count k dest
+          go : (o : Option ℕ) → firstOutside text list count ≡ o → Nowhere ≡ outsideAs o → InText text list count k dest
           go (some j) e q = let z : _≡_ {A = ℕ} 0 1 = cc in absurd (omega arith)
           go none e q =
               let (least, most) = within-both fewestLines mostLines count good in
@@ -118,12 +117,12 @@ module _ (text : Bytes) (list : List ℕ) (count : ℕ) (k : Break) (dest : Byte
                 inside = all-inside text list count (omega arith) e;
                 some-lines = omega arith;
                 not-too-many = most;
-                hangs = passed lineFindings at-places (rw e);
+                reached = passed lineFindings at-places (rw e);
               }
 
   -- the lines
 
-  pub stray-found : (i at : ℕ) → Found text list count k dest → Stray i at ≡ measured text list count k → IsWritten text list count k dest (Refused (BadCharacter i at)) dest
+  pub stray-found : (i at : ℕ) → InText text list count k dest → Stray i at ≡ measured text list count k → IsWritten text list count k dest (Refused (BadCharacter i at)) dest
   unfolding measured
   stray-found i at f h = go (strayBreak 1 (placed 0 k (handed text list count))) refl h
     where
@@ -132,43 +131,43 @@ module _ (text : Bytes) (list : List ℕ) (count : ℕ) (k : Break) (dest : Byte
       go (some r) e q =
           let a : i ≡ r .line = cc in
           let b : at ≡ Option·getD (r .place) 0 = cc in
-          stopped joinedFindings (BadCharacter i at) (f .hangs) (e ∙ ap some (rw (a, b) (stray-three 1 _ r e)))
+          stopped joinedFindings (BadCharacter i at) (f .reached) (e ∙ ap some (rw (a, b) (stray-three 1 _ r e)))
 
-  pub none-stray : (n : ℕ) → Found text list count k dest → Fits n ≡ measured text list count k → Joined text list count k dest n
+  pub none-stray : (n : ℕ) → InText text list count k dest → Fits n ≡ measured text list count k → Joined text list count k dest n
   unfolding measured
   none-stray n f h = go (strayBreak 1 (placed 0 k (handed text list count))) refl h
     where
       go : (o : Option Refusal) → strayBreak 1 (placed 0 k (handed text list count)) ≡ o → Fits n ≡ measuredAs o (length B) → Joined text list count k dest n
       go (some r) e q = let z : _≡_ {A = ℕ} 0 1 = cc in absurd (omega arith)
-      go none e q = let long : n ≡ length B = cc in record { inside = f .inside; bytes-are = long; hangs = passed joinedFindings (f .hangs) e }
+      go none e q = let long : n ≡ length B = cc in record { inside = f .inside; bytes-are = long; reached = passed joinedFindings (f .reached) e }
 
   -- the joined bytes
 
   module _ (n : ℕ) (f : Joined text list count k dest n) where
     pub reader-refuses : (q : Fault) → verdict swiss B ≡ refused (paperFault q) → IsWritten text list count k dest (Refused q) dest
-    reader-refuses q h = stopped _ q (f .hangs) (settled-refuses (billOf B) (first (findings swiss B)) (paperFault q) (sym (verdict-is swiss B) ∙ h))
+    reader-refuses q h = stopped _ q (f .reached) (settled-refuses (billOf B) (first (findings swiss B)) (paperFault q) (sym (verdict-is swiss B) ∙ h))
 
     pub too-many-bytes : mostBytes < n → IsWritten text list count k dest (Refused TooManyBytes) dest
     too-many-bytes h = reader-refuses TooManyBytes (too-many B (λ z. absurd (omega (arith, f .bytes-are))) (omega (arith, f .bytes-are)))
 
-    pub reader-accepts : (m : ℕ) (j : Break) → verdict swiss B ≡ accepted m j → Accepted text list count k dest n
+    pub reader-accepts : (m : ℕ) (j : Break) → verdict swiss B ≡ accepted m j → Readable text list count k dest n
     reader-accepts m j h =
         record {
           inside = f .inside;
           bytes-are = f .bytes-are;
-          hangs = passed (noRoom (length dest) (length B) ∷ []) (f .hangs) (settled-accepts (billOf B) (first (findings swiss B)) (sym (verdict-is swiss B) ∙ h) .0);
+          reached = passed (noRoom (length dest) (length B) ∷ []) (f .reached) (settled-accepts (billOf B) (first (findings swiss B)) (sym (verdict-is swiss B) ∙ h) .0);
         }
 
   -- room
 
-  module _ (n : ℕ) (f : Accepted text list count k dest n) where
+  module _ (n : ℕ) (f : Readable text list count k dest n) where
     pub too-short : length dest < n → IsWritten text list count k dest (Refused NoRoom) dest
-    too-short h = stopped [] NoRoom (f .hangs) (rw (lt-ltb (length dest) (length B) (omega (arith, f .bytes-are))))
+    too-short h = stopped [] NoRoom (f .reached) (rw (lt-ltb (length dest) (length B) (omega (arith, f .bytes-are))))
 
     pub room-for-all : n ≤ length dest → (after : Bytes) → after ≡ B ++ drop (length B) dest → IsWritten text list count k dest (Length n) after
     unfolding writeAnswer
     room-for-all h after is =
-        let nothing : first (writeFindings swiss text list count k (length dest)) ≡ none = passed [] (f .hangs) (rw (le-ltb (length dest) (length B) (omega (arith, f .bytes-are)))) ∙ first-nil in
+        let nothing : first (writeFindings swiss text list count k (length dest)) ≡ none = passed [] (f .reached) (rw (le-ltb (length dest) (length B) (omega (arith, f .bytes-are)))) ∙ first-nil in
         record { answer = rw (nothing, f .bytes-are); lent = rw nothing is }
 
 -- the front of a buffer in which bytes are laid

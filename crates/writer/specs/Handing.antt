@@ -3,14 +3,13 @@ use Prim.Native.Nat.{ℕ, _+_, _*_, _≤_, _<_}
 use mathlib.Core.Bool.{Bool, true, false}
 use mathlib.Core.List.{List}
 use mathlib.Core.Option.{Option, some, none, Option·getD}
-use lib.Dec.{ltb}
 use lib.ListN.{length, getD}
 use Rattle.sieve.specs.declared.Break.{Break}
 use Rattle.sieve.specs.Bytes.{Bytes, firstSuch}
 use Rattle.sieve.specs.Lines.{joined}
 use Rattle.sieve.specs.Verdict.{Refusal}
 use Rattle.sieve.specs.Places.{placed}
-use Rattle.sieve.specs.Writing.{Span, spans, part, handed, strayBreak}
+use Rattle.sieve.specs.Writing.{Span, outside, spans, part, handed, strayBreak}
 use Rattle.text.specs.declared.After.{After}
 use Rattle.text.specs.declared.After.the-variants.{Nothing, ABreak}
 use Rattle.writer.specs.declared.Outside.{Outside}
@@ -31,7 +30,7 @@ outsideAs none = Nowhere
 outsideAs (some i) = At i
 
 unfoldable pub firstOutside : Bytes → List ℕ → ℕ → Option ℕ
-firstOutside text list count = firstSuch (λ s. ltb (length text) (s .start + s .bytes)) 1 (spans count list)
+firstOutside text list count = firstSuch (outside (length text)) 1 (spans count list)
 
 -- so many places are there, and lie inside the text
 pub record Inside (text : Bytes) (list : List ℕ) (count : ℕ) : Type 0 where

@@ -28,25 +28,25 @@ module _ (text : Bytes) (list : List ℕ) (count : ℕ) (k : Break) (dest : Byte
   abbrev pub bytes : Bytes
   bytes = joined k (handed text list count)
 
-  -- the answer hangs on these findings alone: those before them are none
-  abbrev pub Hangs : List (Option Refusal) → Type 0
-  Hangs os = first (writeFindings swiss text list count k (length dest)) ≡ first os
+  -- the answer reached on these findings alone: those before them are none
+  abbrev pub Reached : List (Option Refusal) → Type 0
+  Reached os = first (writeFindings swiss text list count k (length dest)) ≡ first os
 
   -- the list, the count and the places are good
-  pub record Found : Type 0 where
+  pub record InText : Type 0 where
     pub inside : Inside text list count
     pub some-lines : 1 ≤ count
     pub not-too-many : count ≤ mostLines
-    pub hangs : Hangs (strayBreak 1 (placed 0 k (handed text list count)) ∷ first (findings swiss bytes) ∷ noRoom (length dest) (length bytes) ∷ [])
+    pub reached : Reached (strayBreak 1 (placed 0 k (handed text list count)) ∷ first (findings swiss bytes) ∷ noRoom (length dest) (length bytes) ∷ [])
 
   -- no line holds a break, and joined they are n bytes
   pub record Joined (n : ℕ) : Type 0 where
     pub inside : Inside text list count
     pub bytes-are : n ≡ length bytes
-    pub hangs : Hangs (first (findings swiss bytes) ∷ noRoom (length dest) (length bytes) ∷ [])
+    pub reached : Reached (first (findings swiss bytes) ∷ noRoom (length dest) (length bytes) ∷ [])
 
   -- the reader accepts them
-  pub record Accepted (n : ℕ) : Type 0 where
+  pub record Readable (n : ℕ) : Type 0 where
     pub inside : Inside text list count
     pub bytes-are : n ≡ length bytes
-    pub hangs : Hangs (noRoom (length dest) (length bytes) ∷ [])
+    pub reached : Reached (noRoom (length dest) (length bytes) ∷ [])

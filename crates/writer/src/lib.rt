@@ -10,6 +10,7 @@ use sieve::Fault;
 use sieve::Written;
 use text::After;
 use text::Stray;
+use text::break_length;
 use text::lay;
 use text::stray_break;
 ghost use mathlib.Core.List.{_++_};
@@ -19,7 +20,7 @@ ghost use lib.ListN.{length, drop, getD};
 ghost use Rattle.sieve.specs.Lines.{breakBytes, joined};
 ghost use Rattle.sieve.specs.Writing.{handed};
 ghost use Rattle.writer.specs.Handing.{lineAt, outsideAs, firstOutside, Inside, measured, breakIf};
-ghost use Rattle.writer.specs.Writing.{IsWritten, Found, Joined, Accepted};
+ghost use Rattle.writer.specs.Writing.{IsWritten, InText, Joined, Readable};
 
 // The line that entry i of a list, counted from 0, gives of a text.
 fn handed_line<'a, 'b>(text: &'a [u8], list: &'b [u16], i: usize) -> &'a [u8]
@@ -59,15 +60,6 @@ pub enum Measured {
     Stray(usize, usize),
     // how many bytes
     Length(usize),
-}
-
-fn break_length(k: Break) -> usize
-    ensures { λ r. ⌜ r ≡ length (breakBytes k) ⌝ }
-{
-    match k {
-        Break::Lf => 1,
-        Break::CrLf => 2,
-    }
 }
 
 fn measure(text: &[u8], list: &[u16], count: usize, k: Break) -> Measured
@@ -125,7 +117,7 @@ fn write_accepted(
     dest: &mut [u8],
     n: usize,
 ) -> Written
-    requires { ⌜ Accepted (now text) (now list) count k (now dest) n ⌝ }
+    requires { ⌜ Readable (now text) (now list) count k (now dest) n ⌝ }
     ensures { λ r. ⌜ IsWritten (now (text .entry)) (now (list .entry)) count k (now (dest .entry)) r (now (dest .exit)) ⌝ }
 {
     if dest.len() < n {
@@ -163,7 +155,7 @@ fn write_joined(
 
 // Looks for stray breaks in lines that all lie inside the text.
 fn write_lines(text: &[u8], list: &[u16], count: usize, k: Break, dest: &mut [u8]) -> Written
-    requires { ⌜ Found (now text) (now list) count k (now dest) ⌝ }
+    requires { ⌜ InText (now text) (now list) count k (now dest) ⌝ }
     ensures { λ r. ⌜ IsWritten (now (text .entry)) (now (list .entry)) count k (now (dest .entry)) r (now (dest .exit)) ⌝ }
 {
     match measure(text, list, count, k) {

@@ -9,6 +9,8 @@ use libc::STDOUT_FILENO;
 use sieve::Break;
 use sieve::Fault;
 use sieve::Written;
+use sieve::line_of;
+use sieve::number_of;
 use writer::write;
 ghost use mathlib.Core.Path.{_≡_};
 ghost use Prim.Native.Nat.{_+_, _≤_, _<_};
@@ -30,24 +32,16 @@ fn write_told(number: usize, line: usize, place: usize) {
     io::write_all(STDOUT_FILENO, b" ");
 }
 
-fn write_fault(f: Fault) {
+// The place that a refusal keeps beside its line; 0 where it keeps none.
+fn place_of(f: Fault) -> usize {
     match f {
-        Fault::NoBytes => write_told(1, 0, 0),
-        Fault::TooManyBytes => write_told(2, 0, 0),
-        Fault::BadCharacter(line, place) => write_told(3, line, place),
-        Fault::MixedBreaks(line) => write_told(4, line, 0),
-        Fault::LineCount(count) => write_told(5, count, 0),
-        Fault::NotFixedText(line) => write_told(6, line, 0),
-        Fault::NotEmpty(line) => write_told(7, line, 0),
-        Fault::Missing(line) => write_told(8, line, 0),
-        Fault::TooLong(line) => write_told(9, line, 0),
-        Fault::BadForm(line) => write_told(10, line, 0),
-        Fault::BadCheckDigits(line) => write_told(11, line, 0),
-        Fault::Unpaired(line) => write_told(12, line, 0),
-        Fault::TooLongTogether(line) => write_told(13, line, 0),
-        Fault::OutsideText(line) => write_told(14, line, 0),
-        Fault::NoRoom => write_told(15, 0, 0),
+        Fault::BadCharacter(_, place) => place,
+        _ => 0,
     }
+}
+
+fn write_fault(f: Fault) {
+    write_told(number_of(f) as usize, line_of(f), place_of(f));
 }
 
 fn write_written(w: Written) {

@@ -8,9 +8,6 @@ use Rattle.capi.proofs.packed_place.Tie as tie
 sub-i : tie.Need-sub-i
 sub-i c = search needs
 
-cast-i : tie.Need-cast-i
-cast-i c = search needs
-
 mul-i : tie.Need-mul-i
 mul-i c = search needs
 
@@ -49,7 +46,6 @@ packed-place-spec =
     tie.close
     (tie.spec
     sub-i
-    cast-i
     mul-i
     mul-result
     shared-slice-read-result

@@ -4,7 +4,8 @@ use mathlib.Core.Path.{_≡_, refl, sym, ap, _∙_}
 use borrow.Author.Needs.{needs}
 use lib.ListN.{length, drop, drop-of-length-le}
 use Rattle.sieve.specs.Bytes.{firstSuch}
-use Rattle.text.specs.Results.{ofBreak, strayAs}
+use Rattle.text.specs.Results.{strayAs}
+use Rattle.sieve.specs.Lines.{ofBreak}
 use Rattle.text.proofs.ByteByByte.{such-here, such-later}
 use Rattle.text.proofs.stray_break.Statement.{statement}
 use Rattle.text.proofs.stray_break.Tie as tie

@@ -1,7 +1,8 @@
 -- `writer::measure` meets its contract: what lies before is clean, and its length with a break after each line is reckoned. Assumes nothing.
 use Rattle.writer.specs.declared.Measured.the-variants.{Length}
 use Rattle.writer.specs.Handing.{lineAt, measured}
-use Rattle.writer.proofs.Handing.{still, strayFrom, breaksAll, from-start, all-breaks, line-short, break-short, stray-is, stray-none, stray-within, stray-here, stray-later, length-here, none-left}
+use Rattle.sieve.proofs.Cutting.{break-length}
+use Rattle.writer.proofs.Handing.{still, strayFrom, breaksAll, from-start, all-breaks, line-short, stray-is, stray-none, stray-within, stray-here, stray-later, length-here, none-left}
 use Rattle.sieve.specs.Writing.{handed, strayBreak}
 use Rattle.sieve.specs.Places.{placed}
 use Rattle.sieve.specs.Lines.{breakBytes, joined}
@@ -84,7 +85,7 @@ break-length-requires c κs = search needs
 add-at-2 : tie.Need-add-at-2 Inv-loop μ-loop
 add-at-2 c =
     let l = c .before .before .before .before .before .before in
-    omega (arith, l .before .before .before .pre .2, in-hand (c .before .before .before), c .break-length .ensures, break-short (l .before .before .before .args .k) .1)
+    omega (arith, l .before .before .before .pre .2, in-hand (c .before .before .before), c .break-length .ensures, break-length (l .before .before .before .args .k) .1)
 
 add-i : tie.Need-add-i Inv-loop μ-loop
 add-i c = omega (arith, c .before .before .before .before .before .before .before .before .before .pre .2)
@@ -100,7 +101,7 @@ loop-again c =
     let clear = stray-none (c .before .before .before .before .handed-line .result .now) (sym (c .before .enum-told .given .1) ∙ c .before .before .before .stray-break .ensures) in
     let onward : l .loop .at + length (c .before .before .before .before .handed-line .result .now) + c .break-length .result ≡ l .loop .at + length (lineAt (a .text .now) (a .list .now) (l .loop .i)) + length (breakBytes (a .k)) = rw (line, c .break-length .ensures) in (
       omega (arith, c .before .before .before .before .before .loop-test .taken),
-      omega (arith, in-hand (c .before .before .before), c .break-length .ensures, break-short (a .k) .1),
+      omega (arith, in-hand (c .before .before .before), c .break-length .ensures, break-length (a .k) .1),
       l .loop .inv .2 ∙ stray-later (a .text .now) (a .list .now) (a .count) (a .k) (l .loop .i) (l .loop .at) (c .before .before .before .before .before .loop-test .taken) (rw line at clear) ∙ ap (strayFrom (a .text .now) (a .list .now) (a .count) (a .k) (l .loop .i + 1)) (sym onward),
       omega (arith, onward, l .loop .inv .3, length-here (a .text .now) (a .list .now) (a .count) (a .k) (l .loop .i) (l .loop .at) (c .before .before .before .before .before .loop-test .taken)),
     )
