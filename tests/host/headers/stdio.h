@@ -3,6 +3,7 @@
 typedef struct _IO_FILE FILE;
 extern FILE *stdin;
 extern FILE *stdout;
+int ferror(FILE *of);
 int fflush(FILE *to);
 int printf(const char *format, ...);
 size_t fread(void *to, size_t size, size_t count, FILE *from);

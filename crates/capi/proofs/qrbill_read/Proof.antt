@@ -1,5 +1,5 @@
 -- `capi::qrbill_read` meets its contract: number and line of a verdict, packed, fit in 32 bits. Assumes nothing.
-use Rattle.capi.proofs.Packing.{line-count, low-line, low-number}
+use Rattle.judge.proofs.Numbers.{line-count, low-line, low-number}
 use Rattle.swiss.specs.Swiss.{swiss}
 use Rattle.sieve.specs.Verdict.{accepted, refused, verdict}
 use Rattle.sieve.specs.Paper.{paper, paperFault}

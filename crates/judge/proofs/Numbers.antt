@@ -1,0 +1,142 @@
+-- What a verdict names is small: a refusal's line is below 1000, its number at most 15, and a bill has 31 to 34 lines. Assumes nothing.
+use Prim.Native.Nat.{ℕ, _+_, _≤_, _<_}
+use native.Mathlib.Omega.{arith}
+use mathlib.Core.Bool.{Bool, true, false, _&&_, not}
+use mathlib.Core.List.{List, [], _∷_, _++_, map}
+use mathlib.Core.Option.{Option, some, none, Option·map, Option·none-ne-some}
+use mathlib.Core.Path.{_≡_, refl, sym, ap, _∙_}
+use lib.Dec.{eqb, ltb, lit≤}
+use lib.ListN.{length, take, length-map, length-append, length-take}
+use borrow.Author.Tests.{ltb-true, ltb-false}
+use Rattle.sieve.specs.declared.Break.{Break}
+use Rattle.sieve.specs.declared.Fault.{Fault}
+use Rattle.sieve.specs.declared.Fault.the-variants.{NoBytes, TooManyBytes, BadCharacter, MixedBreaks, LineCount, NotFixedText, NotEmpty, Missing, TooLong, BadForm, BadCheckDigits, Unpaired, TooLongTogether, OutsideText, NoRoom}
+use Rattle.sieve.specs.Bytes.{Bytes, within, firstSuch}
+use Rattle.sieve.specs.Lines.{Next, cut, gluedAfter, breakBytes, linesOf, breaksOf, kind, sameBreak, billOf}
+use Rattle.sieve.specs.Characters.{badPlace, lineFeeds}
+use Rattle.sieve.specs.Rules.{Rule}
+use Rattle.sieve.specs.Paper.{paperFault}
+use Rattle.sieve.specs.Verdict.{Refusal, under, underAt, found, accepted, refused, noBytes, badCharacter, mixedBreaks, lineCount, aboutLines, findings, first, verdict}
+use Rattle.sieve.proofs.Cutting.{break-length}
+use Rattle.sieve.proofs.DemandThree.{any-bytes}
+use Rattle.sieve.proofs.Findings.{settled-refuses, verdict-is, such-at}
+use Rattle.swiss.specs.Limits.{mostBytes, fewestLines, mostLines}
+use Rattle.swiss.specs.Swiss.{rules, swiss}
+use Rattle.swiss.proofs.DemandThree.{swiss-demand-three}
+use Rattle.text.proofs.Fronts.{feeds-few}
+
+-- what is found names a line below 1000
+abbrev Low : Option Refusal → Type 0
+Low o = (r : Refusal) → o ≡ some r → r .line < 1000
+
+low-first : (o : Option Refusal) (os : List (Option Refusal)) → Low o → Low (first os) → Low (first (o ∷ os))
+unfolding first
+low-first none os h k r e = k r e
+low-first (some q) os h k r e = h r e
+
+low-found : (b : Bool) (q : Refusal) → q .line < 1000 → Low (found b q)
+low-found true q h r e = let s : q ≡ r = cc in rw (← s) h
+low-found false q h r e = let z : _≡_ {A = ℕ} 0 1 = cc in absurd (omega arith)
+
+-- rules about lines name a line of the bill
+
+lowRules : List Rule → Bool
+lowRules [] = true
+lowRules (r ∷ rs) = ltb (r .line) 1000 && lowRules rs
+
+swiss-low : lowRules rules ≡ true
+unfolding rules lowRules mathlib.Core.List.flatten
+swiss-low = refl
+
+and-true : (a b : Bool) → a && b ≡ true → (a ≡ true) × (b ≡ true)
+and-true true b h = (refl, h)
+and-true false b h = let z : false ≡ true = h in (z, cc)
+
+rules-low : (ls : List Bytes) (rs : List Rule) → lowRules rs ≡ true → Low (first (map (aboutLines ls) rs))
+unfolding lowRules first
+rules-low ls [] h = λ r e. absurd (Option·none-ne-some r e)
+rules-low ls (q ∷ rs) h =
+    let (a, b) = and-true _ _ h in
+    low-first (aboutLines ls q) (map (aboutLines ls) rs) (low-found (q .broken ls) (under (q .number) (q .line)) (ltb-true _ _ a)) (rules-low ls rs b)
+
+-- a payload has no more breaks than bytes
+
+few-after : (ns : List Next) → length ns ≤ length (gluedAfter ns)
+few-after [] = omega arith
+few-after (n ∷ ns) =
+    omega (
+      arith,
+      few-after ns,
+      break-length (n .break),
+      length-append (breakBytes (n .break)) (n .line ++ gluedAfter ns),
+      length-append (n .line) (gluedAfter ns),
+    )
+
+module _ (p : Bytes) where
+  few-breaks : length (cut p .rest) ≤ length p
+  few-breaks = omega (arith, few-after (cut p .rest), ap length (any-bytes p), length-append (cut p .first) (gluedAfter (cut p .rest)))
+
+  module _ (short : length p ≤ mostBytes) where
+    low-character : Low (badCharacter swiss p (linesOf (cut p)))
+    low-character r e = go (badPlace (swiss .width (linesOf (cut p))) p) e
+      where
+        go : (o : Option ℕ) → Option·map (λ at. underAt 3 (1 + lineFeeds (take at p)) at) o ≡ some r → r .line < 1000
+        go none h = absurd (Option·none-ne-some r h)
+        go (some at) h = let s : underAt 3 (1 + lineFeeds (take at p)) at ≡ r = cc in rw (← s) (omega (arith, feeds-few (take at p), length-take at p))
+
+    low-breaks : Low (mixedBreaks (breaksOf (cut p)))
+    low-breaks r e = go (firstSuch (λ k. not (sameBreak (kind (breaksOf (cut p))) k)) 1 (breaksOf (cut p))) refl e
+      where
+        go : (o : Option ℕ) → firstSuch (λ k. not (sameBreak (kind (breaksOf (cut p))) k)) 1 (breaksOf (cut p)) ≡ o → Option·map (under 4) o ≡ some r → r .line < 1000
+        go none f h = absurd (Option·none-ne-some r h)
+        go (some i) f h =
+            let s : under 4 i ≡ r = cc in
+            let w = such-at (λ k. not (sameBreak (kind (breaksOf (cut p))) k)) 1 (breaksOf (cut p)) i f in
+            rw (← s) (omega (arith, few-breaks, w .place, ap length (w .whole), length-append (w .before) (w .such ∷ w .after), length-map (cut p .rest) (λ (n : Next). n .break)))
+
+    low-count : Low (lineCount swiss (linesOf (cut p)))
+    unfolding swiss
+    low-count = low-found (not (within fewestLines mostLines (length (linesOf (cut p))))) (under 5 (length (linesOf (cut p)))) (omega (arith, few-breaks, length-map (cut p .rest) (λ (n : Next). n .line)))
+
+  abbrev later : List (Option Refusal)
+  later = badCharacter swiss p (linesOf (cut p)) ∷ mixedBreaks (breaksOf (cut p)) ∷ lineCount swiss (linesOf (cut p)) ∷ map (aboutLines (linesOf (cut p))) rules
+
+  low-later : length p ≤ mostBytes → Low (first later)
+  low-later short =
+      low-first _ _ (low-character short) (low-first _ _ (low-breaks short) (low-first _ _ (low-count short) (rules-low (linesOf (cut p)) rules swiss-low)))
+
+  low-bytes : Low (first (found (ltb mostBytes (length p)) (under 2 0) ∷ later))
+  unfolding first
+  low-bytes = go (ltb mostBytes (length p)) refl
+    where
+      go : (b : Bool) → ltb mostBytes (length p) ≡ b → Low (first (found b (under 2 0) ∷ later))
+      go true e = λ r h. let s : under 2 0 ≡ r = cc in rw (← s) (omega arith)
+      go false e = low-later (ltb-false _ _ e)
+
+  -- what a verdict names is below 1000
+  pub low-line : (r : Refusal) → verdict swiss p ≡ refused r → r .line < 1000
+  unfolding findings swiss
+  low-line r h = low-first (noBytes p) _ (low-found (eqb (length p) 0) (under 1 0) (omega arith)) low-bytes r (settled-refuses (billOf p) (first (findings swiss p)) r (sym (verdict-is swiss p) ∙ h))
+
+-- a refusal has a number from 1 to 15
+pub low-number : (f : Fault) → (1 ≤ paperFault f .number) × (paperFault f .number ≤ 15)
+low-number NoBytes = (lit≤ tt, lit≤ tt)
+low-number TooManyBytes = (lit≤ tt, lit≤ tt)
+low-number (BadCharacter i at) = (lit≤ tt, lit≤ tt)
+low-number (MixedBreaks i) = (lit≤ tt, lit≤ tt)
+low-number (LineCount n) = (lit≤ tt, lit≤ tt)
+low-number (NotFixedText i) = (lit≤ tt, lit≤ tt)
+low-number (NotEmpty i) = (lit≤ tt, lit≤ tt)
+low-number (Missing i) = (lit≤ tt, lit≤ tt)
+low-number (TooLong i) = (lit≤ tt, lit≤ tt)
+low-number (BadForm i) = (lit≤ tt, lit≤ tt)
+low-number (BadCheckDigits i) = (lit≤ tt, lit≤ tt)
+low-number (Unpaired i) = (lit≤ tt, lit≤ tt)
+low-number (TooLongTogether i) = (lit≤ tt, lit≤ tt)
+low-number (OutsideText i) = (lit≤ tt, lit≤ tt)
+low-number NoRoom = (lit≤ tt, lit≤ tt)
+
+-- an accepted payload has 31 to 34 lines
+pub line-count : (p : Bytes) (n : ℕ) (k : Break) → verdict swiss p ≡ accepted n k → (31 ≤ n) × (n ≤ 34)
+unfolding swiss
+line-count p n k h = let (b, is) = swiss-demand-three .accepts .sound p n k h in rw (← is .count) (is .keeps .enough, is .keeps .not-too-many)

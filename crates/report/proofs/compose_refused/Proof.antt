@@ -1,0 +1,75 @@
+-- `report::compose_refused` meets its contract. Assumes nothing.
+use Prim.Native.Nat.{_≤_}
+use native.Mathlib.Omega.{arith}
+use mathlib.Core.List.{_++_, append-assoc}
+use mathlib.Core.Path.{_≡_, _∙_}
+use Rattle.sieve.specs.Bytes.{Bytes, ascii}
+use Rattle.report.specs.Spoken.{decimal, lineEnd, spoken}
+use Rattle.report.proofs.Adding.{begun, more, few-digits}
+use borrow.Author.Needs.{needs}
+use Rattle.report.proofs.compose_refused.Statement.{statement}
+use Rattle.report.proofs.compose_refused.Tie as tie
+
+slice-aggregate-add : tie.Need-slice-aggregate-add
+slice-aggregate-add c = search needs
+
+add-requires : tie.Need-add-requires
+add-requires c κs = search needs
+
+number-of-requires : tie.Need-number-of-requires
+number-of-requires c κs = search needs
+
+cast-add-number : tie.Need-cast-add-number
+cast-add-number c = search needs
+
+add-number-requires : tie.Need-add-number-requires
+add-number-requires c κs = search needs
+
+slice-aggregate-add-2 : tie.Need-slice-aggregate-add-2
+slice-aggregate-add-2 c = search needs
+
+-- a number of at most three digits is said
+upto-number : (c : tie.After-slice-known3) → c .before .before .add-number .result ≤ 11
+upto-number c =
+    let n = c .before .before .before .number-of in
+    let a = c .before .before .before .before .before .before .before .before .before .before .before in
+    omega (arith, c .before .before .add-number .ensures .0, c .before .before .before .before .before .before .before .add .ensures .0, few-digits (n .result) (rw (n .ensures) (a .pre .0 .0)))
+
+add-requires-2 : tie.Need-add-requires-2
+add-requires-2 c κs = omega (arith, upto-number (c .before .before), c .before .before .before .before .before .before .before .before .before .before .before .before .before .pre .1)
+
+upto-line : (c : tie.After-slice-known4) → c .before .before .add2 .result ≤ 17
+upto-line c = omega (arith, c .before .before .add2 .ensures .0, upto-number (c .before .before .before .before .before))
+
+line-of-requires : tie.Need-line-of-requires
+line-of-requires c κs = search needs
+
+add-number-requires-2 : tie.Need-add-number-requires-2
+add-number-requires-2 c κs = (rw (c .line-of .ensures) (c .before .before .before .before .before .before .before .before .before .before .before .before .before .before .before .before .before .before .pre .0 .1), omega (arith, upto-line (c .before .before), c .before .before .before .before .before .before .before .before .before .before .before .before .before .before .before .before .before .before .pre .1))
+
+slice-aggregate-add-3 : tie.Need-slice-aggregate-add-3
+slice-aggregate-add-3 c = search needs
+
+add-requires-3 : tie.Need-add-requires-3
+add-requires-3 c κs = omega (arith, upto-line (c .before .before .before .before .before .before .before), c .before .before .before .before .add-number2 .ensures .0, few-digits (c .before .before .before .before .before .line-of .result) (rw (c .before .before .before .before .before .line-of .ensures) (c .before .before .before .before .before .before .before .before .before .before .before .before .before .before .before .before .before .before .before .before .before .before .before .pre .0 .1)), c .before .before .before .before .before .before .before .before .before .before .before .before .before .before .before .before .before .before .before .before .before .before .before .pre .1)
+
+same-length : tie.Need-same-length
+same-length c = search needs
+
+-- five texts, one behind the other
+five : (a b c d e : Bytes) → (((a ++ b) ++ c) ++ d) ++ e ≡ a ++ (b ++ (c ++ (d ++ e)))
+five a b c d e = append-assoc ((a ++ b) ++ c) d e ∙ append-assoc (a ++ b) c (d ++ e) ∙ append-assoc a b (c ++ (d ++ e))
+
+returns : tie.Need-returns
+unfolding spoken
+returns c =
+    let line = c .before .before .before .before .before .before .before .before .line-of in
+    let number = c .before .before .before .before .before .before .before .before .before .before .before .before .before .before .before .before .before .before .number-of in
+    let a = c .before .before .before .before .before .before .before .before .before .before .before .before .before .before .before .before .before .before .before .before .before .before .before .before .before .before in
+    let s = more lineEnd (more (decimal (line .result)) (more (ascii " line ") (more (decimal (number .result)) (begun (ascii "refused ") (c .before .before .before .before .before .before .before .before .before .before .before .before .before .before .before .before .before .before .before .before .before .before .add .ensures)) (c .before .before .before .before .before .before .before .before .before .before .before .before .before .before .before .before .before .add-number .ensures)) (c .before .before .before .before .before .before .before .before .before .before .before .before .add2 .ensures)) (c .before .before .before .before .before .before .before .add-number2 .ensures)) (c .before .before .add3 .ensures) in (
+      omega (arith, c .before .before .add3 .ensures .0, c .before .before .before .before .before .before .before .add-number2 .ensures .0, upto-line (c .before .before .before .before .before .before .before .before .before .before), few-digits (line .result) (rw (line .ensures) (a .pre .0 .1))),
+      s .text ∙ five (ascii "refused ") (decimal (number .result)) (ascii " line ") (decimal (line .result)) lineEnd ∙ rw (line .ensures, number .ensures),
+    )
+
+pub compose-refused-spec : {M : Type 1} → statement M
+compose-refused-spec = tie.close (tie.spec slice-aggregate-add add-requires number-of-requires cast-add-number add-number-requires slice-aggregate-add-2 add-requires-2 line-of-requires add-number-requires-2 slice-aggregate-add-3 add-requires-3 same-length returns)

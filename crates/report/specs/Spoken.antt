@@ -1,0 +1,37 @@
+-- The line that the program writes of a verdict. Assumes nothing.
+use Prim.Native.Nat.{ℕ, zero, suc, _+_, _/_, _%_, _<_}
+use mathlib.Core.Bool.{cond}
+use mathlib.Core.List.{[], _∷_, _++_}
+use lib.Dec.{ltb}
+use Rattle.sieve.specs.declared.Break.{Break}
+use Rattle.sieve.specs.declared.Break.the-variants.{Lf, CrLf}
+use Rattle.sieve.specs.Bytes.{Bytes, ascii}
+use Rattle.sieve.specs.Verdict.{Verdict, accepted, refused}
+
+abbrev pub digitByte : ℕ → ℕ
+digitByte d = 48 + d
+
+-- a number of at most so many digits: those of its tenth part, then the last one
+unfoldable pub decimalIn : ℕ → ℕ → Bytes
+decimalIn zero n = []
+decimalIn (suc k) n = cond (ltb n 10) (digitByte n ∷ []) (decimalIn k (n / 10) ++ (digitByte (n % 10) ∷ []))
+
+-- a number in decimal digits, with no zeros in front: any number of 64 bits has at most 20
+unfoldable pub decimal : ℕ → Bytes
+decimal n = decimalIn 20 n
+
+abbrev pub breakName : Break → Bytes
+breakName Lf = ascii "LF"
+breakName CrLf = ascii "CRLF"
+
+abbrev pub lineEnd : Bytes
+lineEnd = 10 ∷ []
+
+unfoldable pub spoken : Verdict → Bytes
+spoken (accepted n k) = ascii "accepted " ++ (decimal n ++ (ascii " lines " ++ (breakName k ++ lineEnd)))
+spoken (refused r) = ascii "refused " ++ (decimal (r .number) ++ (ascii " line " ++ (decimal (r .line) ++ lineEnd)))
+
+-- every number that is spoken has at most three digits
+abbrev pub Short : Verdict → Type 0
+Short (accepted n k) = n < 1000
+Short (refused r) = (r .number < 1000) × (r .line < 1000)

@@ -1,0 +1,102 @@
+// The line that the program writes of a payload: what the reader answers.
+use judge::judge;
+use sieve::Answer;
+use sieve::Break;
+use sieve::Fault;
+use sieve::line_of;
+use sieve::number_of;
+use text::After;
+use text::lay;
+ghost use mathlib.Core.List.{_++_};
+ghost use mathlib.Core.Path.{_≡_};
+ghost use Prim.Native.Nat.{_+_, _≤_, _<_};
+ghost use lib.ListN.{length, take};
+ghost use Rattle.sieve.specs.Paper.{paper, paperFault};
+ghost use Rattle.sieve.specs.Verdict.{accepted, refused, verdict};
+ghost use Rattle.swiss.specs.Swiss.{swiss};
+ghost use Rattle.text.specs.Laid.{room, laid};
+ghost use Rattle.report.specs.Spoken.{digitByte, decimal, spoken, Short};
+
+// Lays a text behind the first `at` bytes of a line, and answers where it ends.
+fn add(line: &mut [u8], at: usize, text: &[u8]) -> usize
+    requires { ⌜ at + length (now text) ≤ length (now line) ⌝ }
+    ensures { λ r. ⌜ r ≡ at + length (now (text .entry)) ⌝ }
+    ensures { λ r. ⌜ take r (now (line .exit)) ≡ take at (now (line .entry)) ++ now (text .entry) ⌝ }
+{
+    at + lay(&mut line[at..], text, After::Nothing)
+}
+
+fn digit(n: usize) -> u8
+    requires { ⌜ n < 10 ⌝ }
+    ensures { λ r. ⌜ r ≡ digitByte n ⌝ }
+{
+    48 + n as u8
+}
+
+// The same of a number in decimal digits.
+fn add_number(line: &mut [u8], at: usize, n: usize) -> usize
+    requires { ⌜ (n < 1000) × (at + 3 ≤ length (now line)) ⌝ }
+    ensures { λ r. ⌜ r ≡ at + length (decimal n) ⌝ }
+    ensures { λ r. ⌜ take r (now (line .exit)) ≡ take at (now (line .entry)) ++ decimal n ⌝ }
+{
+    let last = digit(n % 10);
+    if n < 10 {
+        return add(line, at, &[last]);
+    }
+    let tens = n / 10;
+    let middle = digit(tens % 10);
+    if tens < 10 {
+        return add(line, at, &[middle, last]);
+    }
+    add(line, at, &[digit(tens / 10), middle, last])
+}
+
+fn compose_accepted(line: &mut [u8], n: usize, k: Break) -> usize
+    requires { ⌜ (n < 1000) × (length (now line) ≡ 32) ⌝ }
+    ensures { λ r. ⌜ r ≤ 32 ⌝ }
+    ensures { λ r. ⌜ take r (now (line .exit)) ≡ spoken (accepted n k) ⌝ }
+{
+    let a = add(line, 0, b"accepted ");
+    let b = add_number(line, a, n);
+    match k {
+        Break::Lf => add(line, b, b" lines LF\n"),
+        Break::CrLf => add(line, b, b" lines CRLF\n"),
+    }
+}
+
+fn compose_refused(line: &mut [u8], fault: Fault) -> usize
+    requires { ⌜ Short (refused (paperFault fault)) × (length (now line) ≡ 32) ⌝ }
+    ensures { λ r. ⌜ r ≤ 32 ⌝ }
+    ensures { λ r. ⌜ take r (now (line .exit)) ≡ spoken (refused (paperFault fault)) ⌝ }
+{
+    let a = add(line, 0, b"refused ");
+    let b = add_number(line, a, number_of(fault) as usize);
+    let c = add(line, b, b" line ");
+    let d = add_number(line, c, line_of(fault));
+    add(line, d, b"\n")
+}
+
+fn compose(line: &mut [u8], answer: Answer) -> usize
+    requires { ⌜ Short (paper answer) × (length (now line) ≡ 32) ⌝ }
+    ensures { λ r. ⌜ r ≤ 32 ⌝ }
+    ensures { λ r. ⌜ take r (now (line .exit)) ≡ spoken (paper answer) ⌝ }
+{
+    match answer {
+        Answer::Accepted(n, k) => compose_accepted(line, n, k),
+        Answer::Refused(fault) => compose_refused(line, fault),
+    }
+}
+
+// Lays the line in the front of `dest`, and answers how many bytes it has; none where they do not fit, and `dest` stays
+// as it is. That they lie in `dest` follows, and is said so that a caller can take them out of it.
+pub fn report(payload: &[u8], dest: &mut [u8]) -> usize
+    ensures { λ r. ⌜ r ≡ room (now (dest .entry)) (spoken (verdict swiss (now (payload .entry)))) ⌝ }
+    ensures { λ _. ⌜ now (dest .exit) ≡ laid (now (dest .entry)) (spoken (verdict swiss (now (payload .entry)))) ⌝ }
+    ensures { λ r. ⌜ r ≤ length (now (dest .exit)) ⌝ }
+{
+    let judged = judge(payload);
+    let answer = judged.answer;
+    let mut line = [0u8; 32];
+    let n = compose(&mut line, answer);
+    lay(dest, &line[0..n], After::Nothing)
+}
