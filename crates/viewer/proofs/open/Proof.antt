@@ -1,5 +1,5 @@
 -- `viewer::open` meets its contract: a walk of its MIR, by hand. `begin` says where the first line starts and what the reader answers; its result is read field by field, and a `Viewer` is made of the payload and of these two.
--- What the slice owns is had twice: once for `begin` and once for the exit, and then once more for the viewer. What `begin`'s result owns is taken apart, and behind what the slice owns it is what the viewer's fields own.
+-- A slice is Copy, so what it owns is had three times: `begin` is passed one, the viewer gets one, and one is left for the exit. What `begin`'s result owns is taken apart into its fields', and with the slice's in front it is what the viewer's fields own.
 -- Assumes nothing.
 use mathlib.Core.Path.{_≡_, refl, ap}
 use Prim.Native.Nat.{ℕ}
