@@ -1,0 +1,3 @@
+pub mod Onward
+pub mod Promise
+pub mod Taken
