@@ -1,11 +1,12 @@
 """Make the payloads that the program `reader_cases` is run on, and what it has to write for each.
 
 The payloads are those of all cases, in their order, each behind its length in four bytes. What is
-to be written is the reference's answer, for lists of three lengths. Of a payload only the first
-2,000 bytes are stored: past 997 it does not matter how many there are.
+to be written is the reference's answer, for lists of three lengths, and the account that a viewer
+hands out. Of a payload only the first 2,000 bytes are stored: past 997 it does not matter how many
+there are.
 
 With `--check` it writes no file: it compares the stored files with what it would make, once for
-each case and list. It prints a line for each failure and at the end `N passed, M failed`.
+each case and line. It prints a line for each failure and at the end `N passed, M failed`.
 """
 
 import sys
@@ -14,7 +15,7 @@ from pathlib import Path
 
 from casefile import read_cases
 from reference.qrbill import LIST_NUMBERS, Accepted, read
-from stored import store, told
+from stored import records, store, told
 
 TESTS = Path(__file__).resolve().parent
 CRATE = TESTS.parent / 'crates' / 'reader_cases'
@@ -22,6 +23,8 @@ CRATE = TESTS.parent / 'crates' / 'reader_cases'
 MOST_STORED = 2000  # bytes of a payload
 LENGTH_BYTES = 4
 LIST_SIZES = (68, 70, 67)
+LINES = len(LIST_SIZES) + 1  # that the program writes for a payload
+ACCOUNT_LINE = 4
 FIRST_MARK = 60000
 BREAK_NUMBERS = {'LF': 1, 'CRLF': 2}
 
@@ -29,6 +32,15 @@ BREAK_NUMBERS = {'LF': 1, 'CRLF': 2}
 def record(payload):
     """A payload behind its length."""
     return len(payload).to_bytes(LENGTH_BYTES, 'little') + payload
+
+
+def account(payload):
+    """The line with the account of a payload; an empty one where it is refused."""
+    answer = read(payload)
+    if not isinstance(answer, Accepted):
+        return b'\n'
+    start, length = answer.places[2 * (ACCOUNT_LINE - 1):2 * ACCOUNT_LINE]
+    return payload[start:start + length] + b'\n'
 
 
 def line(payload, size):
@@ -45,26 +57,19 @@ def line(payload, size):
 
 
 def make():
-    """For each case and list size a name, and the record with the line."""
+    """For each line that is to be written a name, and the payload's record with the line."""
     for case in read_cases(TESTS / 'cases'):
         payload = case.payload[:MOST_STORED]
         for size in LIST_SIZES:
             yield f'{case.name} with {size} numbers', (record(payload), line(payload, size))
-
-
-def stored_records():
-    """The records of the stored input; a last one that is cut short is as short here."""
-    content = (CRATE / 'stdin').read_bytes()
-    while content:
-        end = LENGTH_BYTES + int.from_bytes(content[:LENGTH_BYTES], 'little')
-        yield content[:end]
-        content = content[end:]
+        yield f'{case.name}, its account', (record(payload), account(payload))
 
 
 def stored():
-    """Each record once for each list size, with the line of the stored output."""
-    records = [record for record in stored_records() for _ in LIST_SIZES]
-    return zip_longest(records, (CRATE / 'stdout').read_bytes().splitlines(keepends=True))
+    """Each record once for each of its lines, with the line of the stored output."""
+    content = (CRATE / 'stdin').read_bytes()
+    repeated = [record for record in records(content, LENGTH_BYTES) for _ in range(LINES)]
+    return zip_longest(repeated, (CRATE / 'stdout').read_bytes().splitlines(keepends=True))
 
 
 def checks():
@@ -78,8 +83,8 @@ def main():
     """Write the two files, or check them."""
     if sys.argv[1:] == ['--check']:
         return told(checks())
-    records, lines = zip(*(pair for _, pair in make()))
-    return store(CRATE, records[::len(LIST_SIZES)], lines)
+    inputs, lines = zip(*(pair for _, pair in make()))
+    return store(CRATE, inputs[::LINES], lines)
 
 
 if __name__ == '__main__':

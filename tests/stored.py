@@ -17,11 +17,11 @@ def told(checks):
     return 1 if failed else 0
 
 
-def records(content):
-    """The records of a stored input, each two bytes of length, the low one first, and that many
+def records(content, length_bytes=2):
+    """The records of a stored input, each some bytes of length, the lowest first, and that many
     bytes; what is left over is one more."""
     while content:
-        end = 2 + int.from_bytes(content[:2], 'little')
+        end = length_bytes + int.from_bytes(content[:length_bytes], 'little')
         yield content[:end]
         content = content[end:]
 

@@ -2,7 +2,7 @@
 // has at most 4,096 bytes. Each is read three times, into lists of 68, 70 and 67 numbers, and a line is written for each
 // time: a refusal's number and line, or 0, the line count and the kind of break, 1 for LF and 2 for CR LF; then the
 // numbers of the list. Before it is lent, each number is a mark, 60000 and its index. A list of fewer than 68 numbers
-// that all are still marks is written as `same`.
+// that all are still marks is written as `same`. A fourth line has the account that a viewer of the payload hands out.
 use libc::STDIN_FILENO;
 use libc::STDOUT_FILENO;
 use sieve::Answer;
@@ -92,6 +92,8 @@ fn run(payload: &[u8]) {
     run_into(payload, &mut ample);
     let mut scant = [0u16; 67];
     run_into(payload, &mut scant);
+    io::write_all(STDOUT_FILENO, viewer::account(payload));
+    io::write_all(STDOUT_FILENO, b"\n");
 }
 
 fn wide(x: u8) -> usize
