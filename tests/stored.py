@@ -6,6 +6,11 @@ from itertools import zip_longest
 def told(checks):
     """Count and print checks, each a name, what should be there and what is; the exit status is 1
     if anything failed."""
+    return closed(*counted(checks))
+
+
+def counted(checks):
+    """Print a line for each check that fails; how many pass, and how many fail."""
     passed = failed = 0
     for name, expected, got in checks:
         if expected == got:
@@ -13,6 +18,11 @@ def told(checks):
         else:
             failed += 1
             print(f'{name}: expected {expected}, got {got}')
+    return passed, failed
+
+
+def closed(passed, failed):
+    """Print the closing line; the exit status is 1 if anything failed."""
     print(f'{passed} passed, {failed} failed')
     return 1 if failed else 0
 
