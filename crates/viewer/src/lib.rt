@@ -23,6 +23,7 @@ struct Begun {
 fn begin(payload: &[u8]) -> Begun
     ensures { λ r. ⌜ IsBegun (now (payload .entry)) r ⌝ }
 {
+    let past = payload.len() + 1;
     let judged = judge(payload);
     let answer = judged.answer;
     match answer {
@@ -31,7 +32,7 @@ fn begin(payload: &[u8]) -> Begun
             answer: Answer::Accepted(n, k),
         },
         Answer::Refused(f) => Begun {
-            at: payload.len() + 1,
+            at: past,
             answer: Answer::Refused(f),
         },
     }

@@ -8,6 +8,9 @@ use borrow.Author.Needs.{needs}
 use Rattle.viewer.proofs.begin.Statement.{statement}
 use Rattle.viewer.proofs.begin.Tie as tie
 
+add-past : tie.Need-add-past
+add-past c = search needs
+
 judge-requires : tie.Need-judge-requires
 judge-requires c κs = search needs
 
@@ -16,9 +19,6 @@ enum-known-answer c = search needs
 
 enum-known-answer-2 : tie.Need-enum-known-answer-2
 enum-known-answer-2 c = search needs
-
-add-t10 : tie.Need-add-t10
-add-t10 c = search needs
 
 returns : tie.Need-returns
 returns c =
@@ -31,4 +31,4 @@ returns-2 c =
     record { at = rw is; answer = rw is }
 
 pub begin-spec : {M : Type 1} → statement M
-begin-spec = tie.close (tie.spec judge-requires enum-known-answer enum-known-answer-2 add-t10 returns returns-2)
+begin-spec = tie.close (tie.spec add-past judge-requires enum-known-answer enum-known-answer-2 returns returns-2)
