@@ -43,7 +43,9 @@ def walk_answer(record):
 
 def breaks_answer(record):
     """The length of the breaks, 1 for LF and 2 for CR LF, and how many lines; or 0 and the line
-    that the first break unlike the first one ends."""
+    that the first break unlike the first one ends. Of bytes that are not all allowed, one line."""
+    if walk_answer(record)[0] != 0:
+        return [1, 1]
     lengths = [len(one_break) for one_break in BREAK.findall(record)]
     if len(set(lengths)) < 2:
         return [max(lengths, default=1), len(lengths) + 1]

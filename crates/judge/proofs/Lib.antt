@@ -1,5 +1,4 @@
 pub mod Parts
-pub mod Listing
 pub mod Listed
 pub mod Stages
 pub mod Numbers

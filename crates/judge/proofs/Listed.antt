@@ -13,7 +13,7 @@ use Rattle.sieve.proofs.Cutting.{glued-cut}
 use Rattle.sieve.proofs.Placing.{entries-length}
 use Rattle.text.specs.LinesIn.{linesFrom, linesIn, lineOf}
 use Rattle.text.proofs.LinesLie.{absent, line-lies}
-use Rattle.judge.specs.Listed.{listed}
+use Rattle.lines.specs.Listed.{listed}
 
 pub listed-length : (p : Bytes) → length (listed p) ≡ 68
 unfolding listed

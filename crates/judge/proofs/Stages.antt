@@ -22,12 +22,12 @@ use Rattle.sieve.proofs.Findings.{verdict-is}
 use Rattle.swiss.specs.Limits.{mostBytes, fewestLines, mostLines}
 use Rattle.swiss.specs.Latin.{latin}
 use Rattle.swiss.specs.Swiss.{rules, swiss}
-use Rattle.text.specs.declared.Walked.the-variants.{Clean, Bad}
-use Rattle.text.specs.declared.Parted.the-variants.{Alike, Unlike}
-use Rattle.text.specs.Results.{walked, parted, breaksIn}
+use Rattle.lines.specs.declared.Walked.the-variants.{Clean, Bad}
+use Rattle.lines.specs.declared.Parted.the-variants.{Alike, Unlike}
+use Rattle.lines.specs.Walking.{walked, parted, breaksIn}
 use Rattle.judge.specs.declared.Judged.{Judged}
 use Rattle.judge.specs.Stages.{judgedPlaces, IsJudged, Reached, Characters, OneKind}
-use Rattle.judge.specs.Listed.{listed}
+use Rattle.lines.specs.Listed.{listed}
 use Rattle.content.proofs.Firsts.{first-none, first-some}
 
 -- a finding that is none is passed, and one that is not settles the verdict

@@ -23,7 +23,7 @@ ghost use Rattle.sieve.specs.Verdict.{aboutLines, first};
 ghost use Rattle.swiss.specs.Swiss.{header, account, address, reserved, payment, reference, information, pairing, together, rules};
 ghost use Rattle.content.specs.Findings.{finding};
 ghost use Rattle.content.specs.Content.{emptied, filledIn, short};
-ghost use Rattle.judge.specs.Listed.{listed};
+ghost use Rattle.lines.specs.Listed.{listed};
 ghost use Rattle.swiss.specs.Mod97.{number};
 ghost use Rattle.judge.specs.Groups.{absentIf};
 

@@ -6,15 +6,17 @@ use content::Finding;
 use content::limits::FEWEST_LINES;
 use content::limits::MOST_BYTES;
 use content::limits::MOST_LINES;
+use lines::Parted;
+use lines::Told;
+use lines::Walked;
+use lines::walk;
 use sieve::Answer;
 use sieve::Break;
 use sieve::Fault;
-use text::Parted;
-use text::Walked;
-use text::breaks;
-use text::walk;
 ghost use mathlib.Core.Path.{_≡_};
 ghost use lib.ListN.{replicate};
+ghost use Rattle.lines.specs.Listed.{listed};
+ghost use Rattle.lines.specs.Walking.{breaksIn};
 ghost use Rattle.judge.specs.Stages.{IsJudged, Characters, OneKind};
 
 // What a payload is found to be, and where its lines lie; where it is refused, 68 times 0.
@@ -32,12 +34,11 @@ fn refused(fault: Fault) -> Judged
     }
 }
 
-// The rules about lines, of a payload of so many lines that are parted by one kind of break.
-fn judge_lines(payload: &[u8], k: Break, count: usize) -> Judged
-    requires { ⌜ OneKind (now payload) k count ⌝ }
+// The rules about lines, of a payload of so many lines that are parted by one kind of break and lie at these places.
+fn judge_lines(payload: &[u8], k: Break, count: usize, places: [u16; 68]) -> Judged
+    requires { ⌜ OneKind (now payload) k count × (places ≡ listed (now payload)) ⌝ }
     ensures { λ r. ⌜ IsJudged (now (payload .entry)) r ⌝ }
 {
-    let places = places::list_places(payload);
     match groups::rules(payload, &places, count) {
         Finding::Broken(f) => refused(f),
         Finding::Kept => Judged {
@@ -47,16 +48,18 @@ fn judge_lines(payload: &[u8], k: Break, count: usize) -> Judged
     }
 }
 
-// Rules 4 and 5, and then those about lines.
-fn judge_breaks(payload: &[u8]) -> Judged
-    requires { ⌜ Characters (now payload) ⌝ }
+// Rules 4 and 5, by what the walk tells, and then those about lines.
+fn judge_breaks(payload: &[u8], told: Told) -> Judged
+    requires { ⌜ Characters (now payload) × (told .parted ≡ breaksIn (now payload)) × (told .places ≡ listed (now payload)) ⌝ }
     ensures { λ r. ⌜ IsJudged (now (payload .entry)) r ⌝ }
 {
-    match breaks(payload) {
+    let parted = told.parted;
+    let places = told.places;
+    match parted {
         Parted::Unlike(i) => refused(Fault::MixedBreaks(i)),
         Parted::Alike(k, n) => {
             if (FEWEST_LINES <= n) & (n <= MOST_LINES) {
-                judge_lines(payload, k, n)
+                judge_lines(payload, k, n, places)
             } else {
                 refused(Fault::LineCount(n))
             }
@@ -74,8 +77,10 @@ pub fn judge(payload: &[u8]) -> Judged
     if MOST_BYTES < payload.len() {
         return refused(Fault::TooManyBytes);
     }
-    match walk(payload) {
+    let told = walk(payload);
+    let walked = told.walked;
+    match walked {
         Walked::Bad(i, at) => refused(Fault::BadCharacter(i, at)),
-        Walked::Clean => judge_breaks(payload),
+        Walked::Clean => judge_breaks(payload, told),
     }
 }

@@ -14,7 +14,7 @@ use Rattle.sieve.proofs.Cutting.{glued-cut}
 use Rattle.text.specs.declared.LineAt.{LineAt}
 use Rattle.text.specs.declared.Place.{Place}
 use Rattle.text.specs.Results.{IsLineAt, IsPlaceOf}
-use Rattle.text.specs.LinesIn.{linesFrom, linesIn, lineOf}
+use Rattle.text.specs.LinesIn.{linesFrom, linesIn, lineOf, linesAt}
 use Rattle.text.proofs.LinesAt.{some-width, Onward, nothing, a-break, onward}
 
 -- a line that is not there
@@ -53,10 +53,6 @@ as-placed k (n ∷ ns) at l h =
 pub lines-placed : (s : Bytes) (k : Break) → ((j : Break) → List·Memᴰ j (breaksOf (cut s)) → j ≡ k) → linesIn s ≡ placed 0 k (linesOf (cut s))
 unfolding linesIn
 lines-placed s k h = as-placed k (cut s .rest) 0 (cut s .first) h
-
--- the lines from a place on, one after the other
-abbrev pub linesAt : Bytes → ℕ → List Placed
-linesAt s at = linesFrom at (cut (drop at s) .first) (cut (drop at s) .rest)
 
 first-of : (at : ℕ) (l : Bytes) (ns : List Next) (d : Placed) → getD (linesFrom at l ns) 0 d ≡ record { start = at; text = l }
 unfolding linesFrom

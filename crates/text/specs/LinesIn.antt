@@ -1,7 +1,7 @@
 -- Where the lines of any bytes lie. Assumes nothing.
 use Prim.Native.Nat.{ℕ, _+_, _-_}
 use mathlib.Core.List.{List, [], _∷_}
-use lib.ListN.{length, getD}
+use lib.ListN.{length, drop, getD}
 use Rattle.sieve.specs.Bytes.{Bytes}
 use Rattle.sieve.specs.Lines.{Next, breakBytes, cut}
 use Rattle.sieve.specs.Places.{Placed}
@@ -14,6 +14,10 @@ linesFrom at l (n ∷ ns) = record { start = at; text = l } ∷ linesFrom (at + 
 -- all lines of any bytes
 unfoldable pub linesIn : Bytes → List Placed
 linesIn s = linesFrom 0 (cut s .first) (cut s .rest)
+
+-- the lines from a place on
+abbrev pub linesAt : Bytes → ℕ → List Placed
+linesAt s at = linesFrom at (cut (drop at s) .first) (cut (drop at s) .rest)
 
 -- line n, counted from 1; an absent line has no bytes, and lies at the end
 unfoldable pub lineOf : Bytes → ℕ → Placed

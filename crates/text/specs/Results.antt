@@ -13,21 +13,12 @@ use Rattle.sieve.specs.Lines.{cut, breaksOf, kind, sameBreak}
 use Rattle.sieve.specs.Characters.{breakWidth, lineFeeds}
 use Rattle.sieve.specs.Places.{Placed}
 use Rattle.swiss.specs.Letters.{digit, capital, digitOrCapital, alphanumeric}
-use Rattle.text.specs.declared.Walked.{Walked}
-use Rattle.text.specs.declared.Walked.the-variants.{Clean, Bad}
 use Rattle.text.specs.declared.LineAt.{LineAt}
-use Rattle.text.specs.declared.Parted.{Parted}
-use Rattle.text.specs.declared.Parted.the-variants.{Alike, Unlike}
 use Rattle.text.specs.declared.Place.{Place}
 use Rattle.text.specs.declared.Kind.{Kind}
 use Rattle.text.specs.declared.Kind.the-variants.{Digit, Capital, DigitOrCapital, Alphanumeric, Zero}
 use Rattle.text.specs.declared.Stray.{Stray}
 use Rattle.text.specs.declared.Stray.the-variants.{Nowhere, At}
-
--- clean, or the line (1 + LF bytes before) and the place of the first bad byte
-abbrev pub walked : Bytes → Option ℕ → Walked
-walked s none = Clean
-walked s (some at) = Bad (1 + lineFeeds (take at s)) at
 
 -- the line that starts at place `from` ends before its break, and the next one starts after it
 pub record IsLineAt (s : Bytes) (from : ℕ) (r : LineAt) : Type 0 where
@@ -38,19 +29,6 @@ pub record IsLineAt (s : Bytes) (from : ℕ) (r : LineAt) : Type 0 where
 pub record IsPlaceOf (l : Placed) (r : Place) : Type 0 where
   pub start : r .start ≡ l .start
   pub length : r .length ≡ length (l .text)
-
--- the kind of a break of this width
-abbrev pub ofWidth : ℕ → Break
-ofWidth n = cond (eqb n 2) CrLf Lf
-
--- breaks that are all like the first, with how many lines they part; or the line that the first unlike one ends
-abbrev pub parted : List Break → Option ℕ → Parted
-parted ks none = Alike (kind ks) (1 + length ks)
-parted ks (some i) = Unlike i
-
--- the breaks of any bytes
-unfoldable pub breaksIn : Bytes → Parted
-breaksIn s = let ks = breaksOf (cut s) in parted ks (firstSuch (λ k. not (sameBreak (kind ks) k)) 1 ks)
 
 -- which bytes a kind of character is
 abbrev pub ofKind : Kind → ℕ → Bool

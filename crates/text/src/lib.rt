@@ -1,4 +1,4 @@
-// Characters, breaks and lines of any bytes: the walk over characters, the line finder, and laying a line.
+// Characters, breaks and lines of any bytes: how wide a character or a break is, the line finder, and laying a line.
 use sieve::Break;
 ghost use mathlib.Core.Path.{_≡_};
 ghost use mathlib.Core.Bool.{cond};
@@ -7,10 +7,10 @@ ghost use Prim.Native.Nat.{_+_};
 ghost use lib.ListN.{length, drop, getD};
 ghost use Rattle.sieve.specs.Bytes.{within, same, every, firstSuch};
 ghost use Rattle.sieve.specs.Lines.{breakBytes};
-ghost use Rattle.sieve.specs.Characters.{breakWidth, badPlace, characters};
+ghost use Rattle.sieve.specs.Characters.{breakWidth, characters};
 ghost use Rattle.swiss.specs.Latin.{inOne, inTwo, inThree, latin};
 ghost use Rattle.text.specs.LinesIn.{lineOf};
-ghost use Rattle.text.specs.Results.{walked, IsLineAt, IsPlaceOf, ofWidth, breaksIn, ofKind, strayAs};
+ghost use Rattle.text.specs.Results.{IsLineAt, IsPlaceOf, ofKind, strayAs};
 ghost use Rattle.sieve.specs.Lines.{ofBreak};
 ghost use Rattle.text.specs.Laid.{withBreak, room, laid};
 
@@ -82,41 +82,6 @@ pub fn break_width(s: &[u8], at: usize) -> usize
     0
 }
 
-// What the walk over characters and breaks finds.
-pub enum Walked {
-    Clean,
-    // the line, and the byte's place
-    Bad(usize, usize),
-}
-
-// Walks line by line, and in each line character by character, to the first place where neither a character nor a
-// break begins. What ends a line is one LF, alone or after CR, so the lines are counted by their LF.
-pub fn walk(s: &[u8]) -> Walked
-    ensures { λ r. ⌜ r ≡ walked (now (s .entry)) (badPlace latin (now (s .entry))) ⌝ }
-{
-    let mut at = 0;
-    let mut feeds = 0;
-    let mut found = Walked::Clean;
-    'lines: while at < s.len() {
-        while at < s.len() {
-            let n = width(s, at);
-            if n == 0 {
-                let b = break_width(s, at);
-                if b == 0 {
-                    let line = 1 + feeds;
-                    found = Walked::Bad(line, at);
-                    break 'lines;
-                }
-                at += b;
-                feeds += 1;
-                break;
-            }
-            at += n;
-        }
-    }
-    found
-}
-
 // LF or CR.
 fn of_break(x: u8) -> bool
     ensures { λ r. ⌜ r ≡ ofBreak x ⌝ }
@@ -147,46 +112,6 @@ pub fn line_at(s: &[u8], from: usize) -> LineAt
         at += 1;
     }
     LineAt { end: at, next: at }
-}
-
-// How some bytes are parted into lines.
-pub enum Parted {
-    // all breaks are like the first: its kind (LF where there is none), and how many lines
-    Alike(Break, usize),
-    // the line that the first break unlike the first one ends
-    Unlike(usize),
-}
-
-// The kind of a break, by its width.
-fn break_of(width: usize) -> Break
-    ensures { λ r. ⌜ r ≡ ofWidth width ⌝ }
-{
-    if width == 2 { Break::CrLf } else { Break::Lf }
-}
-
-// Goes from line to line, and holds the break after each against the first.
-pub fn breaks(s: &[u8]) -> Parted
-    ensures { λ r. ⌜ r ≡ breaksIn (now (s .entry)) ⌝ }
-{
-    let first = line_at(s, 0);
-    let width = first.next - first.end;
-    if width == 0 {
-        return Parted::Alike(Break::Lf, 1);
-    }
-    let mut at = first.next;
-    let mut lines = 2;
-    loop {
-        let line = line_at(s, at);
-        let other = line.next - line.end;
-        if other == 0 {
-            return Parted::Alike(break_of(width), lines);
-        }
-        if other != width {
-            return Parted::Unlike(lines);
-        }
-        at = line.next;
-        lines += 1;
-    }
 }
 
 // Where a line lies.

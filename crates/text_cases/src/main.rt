@@ -1,13 +1,13 @@
 // Runs the leaves over the records on standard input, each two bytes of length (the low one first) and that many bytes,
-// and writes a line of numbers for each: what the walk finds, the breaks, the characters, the stray break, and the
-// places of lines 1, 2, 3 and 34.
+// and writes a line of numbers for each: what the walk tells of its bytes and of its breaks, the characters, the stray
+// break, and the places of lines 1, 2, 3 and 34.
 // All of the input is held at once: a stored input has at most 65,536 bytes.
 use libc::STDIN_FILENO;
 use libc::STDOUT_FILENO;
+use lines::Parted;
+use lines::Walked;
 use sieve::Break;
-use text::Parted;
 use text::Stray;
-use text::Walked;
 ghost use Prim.Native.Nat.{_≤_};
 
 fn write_first(n: usize) {
@@ -20,8 +20,8 @@ fn write_next(n: usize) {
 }
 
 // 0 0 0 where it is clean; else the refusal's number, 3, the line, and the place.
-fn write_walk(s: &[u8]) {
-    match text::walk(s) {
+fn write_walked(walked: Walked) {
+    match walked {
         Walked::Clean => {
             write_first(0);
             write_next(0);
@@ -43,8 +43,8 @@ fn kind_number(k: Break) -> usize {
 }
 
 // The kind and how many lines; or 0 and the line that the first unlike break ends.
-fn write_breaks(s: &[u8]) {
-    match text::breaks(s) {
+fn write_parted(parted: Parted) {
+    match parted {
         Parted::Alike(k, lines) => {
             write_next(kind_number(k));
             write_next(lines);
@@ -71,8 +71,11 @@ fn write_place(s: &[u8], n: usize) {
 }
 
 fn write_answer(s: &[u8]) {
-    write_walk(s);
-    write_breaks(s);
+    let told = lines::walk(s);
+    let walked = told.walked;
+    let parted = told.parted;
+    write_walked(walked);
+    write_parted(parted);
     write_next(text::characters(s));
     write_stray(s);
     write_place(s, 1);

@@ -4,8 +4,8 @@ use native.Mathlib.Omega.{arith}
 use mathlib.Core.Path.{_≡_, refl, _∙_}
 use borrow.Author.Needs.{needs}
 use lib.ListN.{length, getD}
-use Rattle.text.specs.LinesIn.{linesIn, lineOf}
-use Rattle.text.proofs.LinesLie.{absent, linesAt, this-line, past-last, after-this}
+use Rattle.text.specs.LinesIn.{linesIn, linesAt, lineOf}
+use Rattle.text.proofs.LinesLie.{absent, this-line, past-last, after-this}
 use Rattle.text.proofs.line_place.Statement.{statement}
 use Rattle.text.proofs.line_place.Tie as tie
 

@@ -14,9 +14,9 @@ use Rattle.sieve.specs.Breaks.{Passed, none-passed, one-passed}
 use Rattle.sieve.proofs.Widths.{passes-other}
 use Rattle.sieve.proofs.Walking.{walk-passed, walk-stops}
 use Rattle.swiss.specs.Latin.{latin}
-use Rattle.text.specs.declared.Walked.the-variants.{Clean, Bad}
-use Rattle.text.specs.Results.{walked}
+use Rattle.lines.specs.declared.Walked.the-variants.{Clean, Bad}
+use Rattle.lines.specs.Walking.{walked}
 use Rattle.text.proofs.Fronts.{Front, feeds-append, feeds-few, character-front, break-front}
 
 -- the walk has come to a place: what it does from there on, and the LF bytes that it has passed
 pub record Come (s : Bytes) (at feeds : ℕ) : Type 0 where

@@ -12,10 +12,9 @@ use Rattle.sieve.specs.Places.{entries}
 use Rattle.sieve.proofs.Cutting.{glued-cut}
 use Rattle.text.specs.declared.LineAt.{LineAt}
 use Rattle.text.specs.Results.{IsLineAt}
-use Rattle.text.specs.LinesIn.{linesFrom}
+use Rattle.text.specs.LinesIn.{linesFrom, linesAt}
 use Rattle.text.proofs.LinesAt.{Onward, nothing, a-break, onward}
-use Rattle.text.proofs.LinesLie.{linesAt}
-use Rattle.judge.specs.Listed.{listed}
+use Rattle.lines.specs.Listed.{listed, Filled}
 
 -- past the end there are only absent lines, which look like one empty line there
 at-end : (p : Bytes) (n : ℕ) → entries n (length p) (linesAt p (length p)) ≡ entries n (length p) []
@@ -54,10 +53,7 @@ two-more l i a b h =
     let f = take-suc-set l i a (omega arith) in
     rw n (e ∙ rw (add-one, f) (append-assoc (take i l) (a ∷ []) (b ∷ [])))
 
--- the list while it is filled: the numbers of n lines, and what is still to come from place `at` on
-abbrev pub Filled : Bytes → List ℕ → ℕ → ℕ → Type 0
-Filled p l at n = take (2 * n) l ++ entries (34 - n) (length p) (linesAt p at) ≡ listed p
-
+-- one line more is noted
 pub filled-more : (p : Bytes) (l : List ℕ) (at n : ℕ) (r : LineAt) → IsLineAt p at r → at ≤ length p → n < 34 → length l ≡ 68 → Filled p l at n
     → Filled p (set (set l (2 * n) at) (2 * n + 1) (r .end - at)) (r .next) (n + 1)
 filled-more p l at n r is h k size e =

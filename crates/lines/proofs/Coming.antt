@@ -1,0 +1,171 @@
+-- The walk, a step at a time: the line that it is in, the breaks that it has passed, and the lines that are noted. Assumes nothing.
+use Prim.Native.Nat.{ℕ, suc, _+_, _-_, _*_, _≤_, _<_}
+use native.Mathlib.Nat.{zero-add}
+use native.Mathlib.Omega.{arith}
+use mathlib.Core.Bool.{Bool, true, false, cond, not, _&&_}
+use mathlib.Core.List.{List, [], _∷_, _++_}
+use mathlib.Core.Logic.{_≢_}
+use mathlib.Core.Path.{_≡_, refl, sym, ap, _∙_}
+use lib.Dec.{eqb, ltb, leb}
+use lib.ListN.{length, take, drop, set, replicate, length-set, length-drop}
+use lib.Seq.{drop-drop}
+use borrow.Author.Tests.{eqb-true, eqb-false, ltb-true, ltb-false, eq-eqb, ne-eqb, lt-ltb, le-ltb, le-leb}
+use Rattle.sieve.specs.declared.Break.{Break}
+use Rattle.sieve.specs.Bytes.{Bytes}
+use Rattle.sieve.specs.Lines.{breakBytes, cut, breaksOf, kind}
+use Rattle.sieve.specs.Characters.{breakWidth}
+use Rattle.sieve.specs.Lawful.{Plain, no-more, one-more}
+use Rattle.sieve.specs.Places.{entries}
+use Rattle.swiss.specs.Latin.{latin}
+use Rattle.swiss.proofs.Latin.{lawful}
+use Rattle.text.specs.declared.LineAt.{LineAt}
+use Rattle.text.specs.Results.{IsLineAt}
+use Rattle.text.specs.LinesIn.{linesIn}
+use Rattle.text.proofs.FirstLine.{stops, ends}
+use Rattle.text.proofs.LinesAt.{some-width, within}
+use Rattle.lines.specs.declared.Kinds.{Kinds}
+use Rattle.lines.specs.declared.Parted.{Parted}
+use Rattle.lines.specs.declared.Parted.the-variants.{Alike, Unlike}
+use Rattle.lines.specs.Listed.{listed, listedOf, Filled}
+use Rattle.lines.specs.Walking.{greatest, ofWidth, breaksIn, heldBy, partedBy, noted}
+use Rattle.lines.proofs.Stepping.{Come, starts, over-character, over-break}
+use Rattle.lines.proofs.Parting.{partedFrom, no-more as none-more, alike, unlike, from-first, Broken, unbroken, broken}
+use Rattle.lines.proofs.Listing.{filled-more}
+
+-- bytes that are neither CR nor LF are of the line
+plain-first : {n : ℕ} {t : Bytes} → Plain n t → length (cut t .first) ≡ n + length (cut (drop n t) .first)
+unfolding cut
+plain-first no-more = sym (zero-add _)
+plain-first (one-more {x = x} a b p) = rw (ne-eqb x 10 a, ne-eqb x 13 b) (omega (arith, plain-first p))
+
+-- how the lines are parted, if these breaks come behind n - 1 others
+abbrev heldFrom : Kinds → ℕ → List Break → Parted
+heldFrom k n ks = cond (eqb (k .unlike) 0) (partedFrom (cond (eqb (k .first) 0) (kind ks) (ofWidth (k .first))) n ks) (Unlike (k .unlike))
+
+-- a width is that of a break, or of none
+abbrev Wide : ℕ → Type 0
+Wide b = b ≢ 0 → length (breakBytes (ofWidth b)) ≡ b
+
+-- one break more
+one-held : (k : Kinds) (b n : ℕ) (ks : List Break) → Wide (k .first) → Wide b → b ≢ 0 → n ≢ 0 → heldFrom k n (ofWidth b ∷ ks) ≡ heldFrom (heldBy k b n) (n + 1) ks
+one-held k b n ks wide w h m = go (eqb (k .unlike) 0) (eqb (k .first) 0) (eqb b (k .first)) refl refl refl
+  where
+    go : (u f d : Bool) → eqb (k .unlike) 0 ≡ u → eqb (k .first) 0 ≡ f → eqb b (k .first) ≡ d → heldFrom k n (ofWidth b ∷ ks) ≡ heldFrom (heldBy k b n) (n + 1) ks
+    go true true d p q r = rw (p, q, p, ne-eqb b 0 h) (alike (ofWidth b) n ks)
+    go false true d p q r = rw (p, q, p)
+    go true false true p q r = rw (p, q, r, p, q, ← eqb-true b (k .first) r) (alike (ofWidth b) n ks)
+    go true false false p q r =
+        rw (p, q, r, ne-eqb n 0 m)
+        (unlike _ n (ofWidth b) ks (λ e. eqb-false _ _ r (sym (w h) ∙ ap (λ (j : Break). length (breakBytes j)) e ∙ wide (eqb-false _ _ q))))
+    go false false d p q r = rw (p, q, p)
+
+-- no break more
+all-held : (k : Kinds) (n : ℕ) → heldFrom k n [] ≡ partedBy k n
+all-held k n = ap (λ (x : Parted). cond (eqb (k .unlike) 0) x (Unlike (k .unlike))) (none-more _ n ∙ ap (λ (j : Break). Alike j n) (go (eqb (k .first) 0) refl))
+  where
+    go : (f : Bool) → eqb (k .first) 0 ≡ f → cond f (kind []) (ofWidth (k .first)) ≡ ofWidth (k .first)
+    go true e = rw (eqb-true (k .first) 0 e)
+    go false e = refl
+
+few-listed : (n : ℕ) → n ≤ 34 → listedOf n ≡ n
+few-listed n h = go (ltb n 34) refl
+  where
+    go : (b : Bool) → ltb n 34 ≡ b → cond b n 34 ≡ n
+    go true e = refl
+    go false e = omega (arith, ltb-false n 34 e)
+
+many-listed : (n : ℕ) → 34 ≤ n → listedOf n ≡ 34
+many-listed n h = rw (le-ltb n 34 h)
+
+-- a line more that is noted, or one that is not among those that are listed
+module _ (s : Bytes) (l : List ℕ) (start feeds : ℕ) (size : length l ≡ 68) where
+  pub noted-size : (bytes : ℕ) → length (noted l feeds start bytes) ≡ 68
+  noted-size bytes = go (ltb feeds 34 && leb start greatest && leb bytes greatest)
+    where
+      go : (b : Bool) → length (cond b (set (set l (2 * feeds) start) (2 * feeds + 1) bytes) l) ≡ 68
+      go true = simp length-set size
+      go false = size
+
+  one-noted : (r : LineAt) → IsLineAt s start r → start ≤ length s → length s ≤ greatest → Filled s l start (listedOf feeds) → Filled s (noted l feeds start (r .end - start)) (r .next) (listedOf (feeds + 1))
+  unfolding entries
+  one-noted r is h short e = go (ltb feeds 34) refl
+    where
+      go : (b : Bool) → ltb feeds 34 ≡ b → Filled s (noted l feeds start (r .end - start)) (r .next) (listedOf (feeds + 1))
+      go true few =
+          let next = few-listed (feeds + 1) (omega (arith, ltb-true feeds 34 few)) in
+          let end = within s start r is h in
+          rw (next, few, le-leb start greatest (omega arith), le-leb (r .end - start) greatest (omega (arith, is .next)))
+          (filled-more s l start feeds r is h (ltb-true _ _ few) size (rw few at e))
+      go false many =
+          let next = many-listed (feeds + 1) (omega (arith, ltb-false feeds 34 many)) in
+          rw (many, next) (rw many at e)
+
+-- where the walk has come to
+pub record Here (s : Bytes) (l : List ℕ) (at start feeds : ℕ) (k : Kinds) : Type 0 where
+  pub come : Come s at feeds
+  pub before : start ≤ at
+  pub line : start + length (cut (drop start s) .first) ≡ at + length (cut (drop at s) .first)
+  pub breaks : breaksIn s ≡ heldFrom k (feeds + 1) (breaksOf (cut (drop start s)))
+  pub wide : Wide (k .first)
+  pub size : length l ≡ 68
+  pub listed : length s ≤ greatest → Filled s l start (listedOf feeds)
+
+pub begins : (s : Bytes) → Here s (replicate 68 0) 0 0 0 (record { first = 0; unlike = 0 })
+unfolding listed linesIn
+begins s = record { come = starts s; before = omega arith; line = refl; breaks = from-first s; wide = λ h. absurd (h refl); size = refl; listed = λ h. refl }
+
+module _ (s : Bytes) (l : List ℕ) (at start feeds : ℕ) (k : Kinds) (here : Here s l at start feeds k) where
+  -- a character is passed
+  pub character : (n : ℕ) → n ≡ latin (drop at s) → n ≢ 0 → Here s l (at + n) start feeds k
+  character n e h =
+      let plain = rw (← e, drop-drop n at s) at (plain-first (lawful .plain (drop at s))) in
+      record {
+        come = over-character s at feeds (here .come) n e h;
+        before = omega (arith, here .before);
+        line = omega (arith, here .line, plain);
+        breaks = here .breaks;
+        wide = here .wide;
+        size = here .size;
+        listed = here .listed;
+      }
+
+  -- a break is passed
+  module _ (b : ℕ) (in-bytes : at < length s) (z : latin (drop at s) ≡ 0) (e : b ≡ breakWidth (drop at s)) (h : b ≢ 0) where
+    abbrev found : LineAt
+    found = record { end = at; next = at + b }
+
+    is-line : IsLineAt s start found
+    is-line = record { end = omega (arith, here .line, stops s at in-bytes (rw (← e) h)); next = ap (λ (n : ℕ). at + n) e }
+
+    width-is : at + b - at ≡ b
+    width-is = omega arith
+
+    its-break : (breaksOf (cut (drop start s)) ≡ ofWidth b ∷ breaksOf (cut (drop (at + b) s))) × (length (breakBytes (ofWidth b)) ≡ b)
+    its-break = let r = broken s start found is-line (λ w. h (sym width-is ∙ w)) in (rw width-is at (r .breaks), rw width-is at (r .width))
+
+    still-wide : Wide (heldBy k b (feeds + 1) .first)
+    still-wide = go (eqb (k .first) 0) (eqb (k .unlike) 0 && not (eqb b (k .first)))
+      where
+        go : (f d : Bool) → Wide ((cond f (record { first = b; unlike = k .unlike }) (cond d (record { first = k .first; unlike = feeds + 1 }) k)) .first)
+        go true d w = its-break .1
+        go false true w = here .wide w
+        go false false w = here .wide w
+
+    pub a-break-passed : Here s (noted l feeds start (at - start)) (at + b) (at + b) (feeds + 1) (heldBy k b (feeds + 1))
+    a-break-passed = record {
+      come = over-break s at feeds (here .come) b z e h;
+      before = omega arith;
+      line = refl;
+      breaks = here .breaks ∙ ap (heldFrom k (feeds + 1)) (its-break .0) ∙ one-held k b (feeds + 1) _ (here .wide) (λ w. its-break .1) h (λ w. omega arith);
+      wide = still-wide;
+      size = noted-size s l start feeds (here .size) (at - start);
+      listed = λ short. one-noted s l start feeds (here .size) found is-line (omega (arith, here .before)) short (here .listed short);
+    }
+
+  -- nothing is left
+  pub all-passed : length s ≤ at → partedBy k (feeds + 1) ≡ breaksIn s
+  all-passed h =
+      let (first-none, width-none) = ends s at h in
+      let r : LineAt = record { end = at; next = at } in
+      let is : IsLineAt s start r = record { end = omega (arith, here .line); next = omega arith } in
+      sym (here .breaks ∙ ap (heldFrom k (feeds + 1)) (unbroken s start r is (omega arith)) ∙ all-held k (feeds + 1))

@@ -1,0 +1,5 @@
+pub mod Stepping
+pub mod Parting
+pub mod Listing
+pub mod Coming
+pub mod Telling

@@ -1,0 +1,23 @@
+-- The list of places of any bytes that are cut into lines. Assumes nothing.
+use Prim.Native.Nat.{ℕ, _-_, _*_}
+use mathlib.Core.Bool.{cond}
+use mathlib.Core.List.{List, _++_}
+use mathlib.Core.Path.{_≡_}
+use lib.Dec.{ltb}
+use lib.ListN.{length, take}
+use Rattle.sieve.specs.Bytes.{Bytes}
+use Rattle.sieve.specs.Places.{entries}
+use Rattle.swiss.specs.Limits.{mostLines}
+use Rattle.text.specs.LinesIn.{linesIn, linesAt}
+
+-- an entry for each line that a Swiss bill may have
+unfoldable pub listed : Bytes → List ℕ
+listed p = entries mostLines (length p) (linesIn p)
+
+-- the list while it is filled: the numbers of n lines, and what is still to come from place `at` on
+abbrev pub Filled : Bytes → List ℕ → ℕ → ℕ → Type 0
+Filled p l at n = take (2 * n) l ++ entries (mostLines - n) (length p) (linesAt p at) ≡ listed p
+
+-- how many of so many lines are listed
+abbrev pub listedOf : ℕ → ℕ
+listedOf n = cond (ltb n mostLines) n mostLines
