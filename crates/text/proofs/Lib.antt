@@ -6,3 +6,4 @@ pub mod LinesAt
 pub mod Parting
 pub mod LinesLie
 pub mod Lays
+pub mod OneAnswer
