@@ -3,3 +3,4 @@ pub mod Listing
 pub mod Listed
 pub mod Stages
 pub mod Numbers
+pub mod OneAnswer
