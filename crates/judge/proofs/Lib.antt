@@ -2,3 +2,4 @@ pub mod Parts
 pub mod Listed
 pub mod Stages
 pub mod Numbers
+pub mod OneAnswer

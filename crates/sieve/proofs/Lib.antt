@@ -12,3 +12,4 @@ pub mod PaperLosesNothing
 pub mod ReaderPromises
 pub mod Strays
 pub mod WriterPromises
+pub mod OneAnswer

@@ -11,3 +11,4 @@ pub mod Lawful
 pub mod Keeps
 pub mod Breaks
 pub mod Demand
+pub mod OneAnswer

@@ -4,3 +4,4 @@ pub mod FirstLine
 pub mod LinesAt
 pub mod LinesLie
 pub mod Lays
+pub mod OneAnswer

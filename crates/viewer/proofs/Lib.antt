@@ -1,3 +1,4 @@
 pub mod Onward
 pub mod Promise
 pub mod Taken
+pub mod OneAnswer

@@ -1,3 +1,4 @@
 pub mod Handing
 pub mod Writing
 pub mod Promise
+pub mod OneAnswer

@@ -1,0 +1,22 @@
+-- The contract of each public function leaves one answer. Assumes nothing.
+use mathlib.Core.Path.{refl, sym, _∙_}
+use Rattle.sieve.specs.OneAnswer.{OneAnswer}
+use Rattle.digits.proofs as fn
+
+pub one-remainder-after : OneAnswer fn.remainder_after.ended fn.remainder_after.Reads.Learnt
+one-remainder-after κs a x y v w h k = (h ∙ sym k, refl)
+
+pub one-remainder97 : OneAnswer fn.remainder97.ended fn.remainder97.Reads.Learnt
+one-remainder97 κs a x y v w h k = (h ∙ sym k, refl)
+
+pub one-checks97 : OneAnswer fn.checks97.ended fn.checks97.Reads.Learnt
+one-checks97 κs a x y v w h k = (h ∙ sym k, refl)
+
+pub one-number : OneAnswer fn.number.ended fn.number.Reads.Learnt
+one-number κs a x y v w h k = (h ∙ sym k, refl)
+
+pub one-check-digit : OneAnswer fn.check_digit.ended fn.check_digit.Reads.Learnt
+one-check-digit κs a x y v w h k = (h ∙ sym k, refl)
+
+pub one-checks10 : OneAnswer fn.checks10.ended fn.checks10.Reads.Learnt
+one-checks10 κs a x y v w h k = (h ∙ sym k, refl)

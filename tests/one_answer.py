@@ -1,0 +1,120 @@
+"""Check that no public function of a library is without its proof of one answer.
+
+Public is what another crate can call: a `pub fn` of a library's lib.rt, or of a file that is
+declared there by `pub mod`. Each has an `ensures`; a theorem in its crate's proofs/OneAnswer.antt
+whose statement names it and no other function, in a file that names its contract; and a row in the
+table of docs/CLAIMS.md, which has no other rows. That the theorems are proved is for `rt` to say.
+Prints a line for each failure and at the end `N passed, M failed`.
+"""
+
+import re
+import sys
+from pathlib import Path
+from typing import NamedTuple
+
+from stored import told
+
+ROOT = Path(__file__).resolve().parent.parent
+CRATES = ROOT / 'crates'
+CLAIMS = ROOT / 'docs' / 'CLAIMS.md'
+HEADING = '## One answer each\n'
+
+CRATE = re.compile(r'^(\w+):', re.MULTILINE)
+PUBLIC_MODULE = re.compile(r'^pub mod (\w+);', re.MULTILINE)
+PUBLIC_USE = re.compile(r'^ *pub use .*', re.MULTILINE)
+# The contract ends where the body begins, or at an empty line.
+PUBLIC_FUNCTION = re.compile(r'^ *pub (?:[\w"]+ )*fn (\w+)(.*?)^ *(?:[{}]|$)',
+                             re.MULTILINE | re.DOTALL)
+ENSURES = re.compile(r'^ *ensures\b', re.MULTILINE)
+THEOREM = re.compile(r'^pub (one-\S+) :(.*?)^\S', re.MULTILINE | re.DOTALL)
+NAMED_FUNCTION = re.compile(r'\bfn\.(\w+)\.')
+NAMED_CONTRACT = re.compile(r'\bfn\.(\w+)\.(?:Reads\.Learnt|clauses)\b')
+
+
+class Function(NamedTuple):
+    """A public function."""
+
+    crate: str
+    name: str
+    contract: str
+
+    @property
+    def theorem(self):
+        """The name of its theorem."""
+        return 'one-' + self.name.replace('_', '-')
+
+    @property
+    def row(self):
+        """What the table says of it: crate, function, theorem."""
+        return self.crate, self.name, self.theorem
+
+
+def libraries():
+    """The names of the crates that are no programs."""
+    names = CRATE.findall((ROOT / 'crates.txt').read_text('utf-8'))
+    return [name for name in names if (CRATES / name / 'src' / 'lib.rt').exists()]
+
+
+def public_texts(file, modules):
+    """What stands in a source file, and in each that it declares public."""
+    text = file.read_text('utf-8')
+    yield text
+    for name in PUBLIC_MODULE.findall(text):
+        yield from public_texts(modules / f'{name}.rt', modules / name)
+
+
+def public_text(crate):
+    """All that another crate can see of a library."""
+    source = CRATES / crate / 'src'
+    return '\n'.join(public_texts(source / 'lib.rt', source))
+
+
+def public_functions(crate):
+    """The public functions of a library, in the order of its source."""
+    return [Function(crate, *found) for found in PUBLIC_FUNCTION.findall(public_text(crate))]
+
+
+def proof_text(crate):
+    """The file of a crate's theorems that there is one answer."""
+    file = CRATES / crate / 'proofs' / 'OneAnswer.antt'
+    return file.read_text('utf-8') if file.exists() else ''
+
+
+def table():
+    """The rows of the table, each as crate, function and theorem."""
+    section = CLAIMS.read_text('utf-8').partition(HEADING)[2].partition('\n## ')[0]
+    for line in section.splitlines():
+        if line.startswith('| `'):
+            cells = [cell.strip(' `') for cell in line.strip('|').split('|')]
+            yield cells[0], cells[1], cells[-1]
+
+
+def checks_of_library(crate, rows):
+    """The checks of each public function of a library."""
+    proofs = proof_text(crate)
+    statements = dict(THEOREM.findall(proofs))
+    contracts = NAMED_CONTRACT.findall(proofs)
+    yield f'{crate}: functions under other names', [], PUBLIC_USE.findall(public_text(crate))
+    for function in public_functions(crate):
+        name = f'{crate}::{function.name}'
+        yield f'{name}: has an ensures', True, bool(ENSURES.search(function.contract))
+        named = NAMED_FUNCTION.findall(statements.get(function.theorem, ''))
+        yield f'{name}: {function.theorem} names', {function.name}, set(named)
+        yield f'{name}: its contract is named', True, function.name in contracts
+        yield f'{name}: rows in {CLAIMS.name}', 1, rows.count(function.row)
+
+
+def all_checks():
+    """The checks of every library, and of every row of the table."""
+    rows = list(table())
+    functions = [function for crate in libraries() for function in public_functions(crate)]
+    yield 'there are public functions', True, bool(functions)
+    for crate in libraries():
+        yield from checks_of_library(crate, rows)
+    known = [function.row for function in functions]
+    for row in rows:
+        yield f'the row {" ".join(row)} is about a public function', True, row in known
+
+
+if __name__ == '__main__':
+    sys.exit(told(all_checks()))
