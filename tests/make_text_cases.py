@@ -43,9 +43,7 @@ def walk_answer(record):
 
 def breaks_answer(record):
     """The length of the breaks, 1 for LF and 2 for CR LF, and how many lines; or 0 and the line
-    that the first break unlike the first one ends. Of bytes that are not all allowed, one line."""
-    if walk_answer(record)[0] != 0:
-        return [1, 1]
+    that the first break unlike the first one ends."""
     lengths = [len(one_break) for one_break in BREAK.findall(record)]
     if len(set(lengths)) < 2:
         return [max(lengths, default=1), len(lengths) + 1]
@@ -70,7 +68,9 @@ def place_answer(record, number):
 
 def answer(record):
     """The line that the program has to write for a record."""
-    numbers = walk_answer(record) + breaks_answer(record)
+    walked = walk_answer(record)
+    # Of bytes that are not all allowed the walk tells no breaks: one line.
+    numbers = walked + (breaks_answer(record) if walked[0] == 0 else [1, 1])
     numbers += [len(CHARACTER_BYTE.findall(record))] + stray_answer(record)
     for number in (1, 2, 3, 34):
         numbers += place_answer(record, number)

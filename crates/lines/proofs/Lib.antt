@@ -3,3 +3,4 @@ pub mod Parting
 pub mod Listing
 pub mod Coming
 pub mod Telling
+pub mod OneAnswer

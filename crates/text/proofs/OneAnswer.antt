@@ -11,14 +11,8 @@ one-width κs a x y v w h k = (h ∙ sym k, refl)
 pub one-break-width : OneAnswer fn.break_width.ended fn.break_width.Reads.Learnt
 one-break-width κs a x y v w h k = (h ∙ sym k, refl)
 
-pub one-walk : OneAnswer fn.walk.ended fn.walk.Reads.Learnt
-one-walk κs a x y v w h k = (h ∙ sym k, refl)
-
 pub one-line-at : OneAnswer fn.line_at.ended fn.line_at.Reads.Learnt
 one-line-at κs a x y v w h k = (one-line _ _ x y h k, refl)
-
-pub one-breaks : OneAnswer fn.breaks.ended fn.breaks.Reads.Learnt
-one-breaks κs a x y v w h k = (h ∙ sym k, refl)
 
 pub one-line-place : OneAnswer fn.line_place.ended fn.line_place.Reads.Learnt
 one-line-place κs a x y v w h k = (one-place _ x y h k, refl)
