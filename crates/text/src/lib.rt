@@ -49,14 +49,17 @@ fn in_three(x: u8, y: u8, z: u8) -> bool
     (x == 0xE2) & (y == 0x82) & (z == 0xAC)
 }
 
-// The width of the allowed character that begins at `at`; 0 where none begins. Most characters are one byte, so its
-// neighbours are read only where it is not one of those.
+// The width of the allowed character that begins at `at`; 0 where none begins. Most characters are one byte, and all
+// others begin with C2 or more: only there are the neighbours read, and none at a break.
 pub fn width(s: &[u8], at: usize) -> usize
     ensures { λ r. ⌜ r ≡ latin (drop at (now (s .entry))) ⌝ }
 {
     let x = byte(s, at, 0);
     if in_one(x) {
         return 1;
+    }
+    if x < 0xC2 {
+        return 0;
     }
     let y = byte(s, at, 1);
     if in_two(x, y) {
