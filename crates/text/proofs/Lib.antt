@@ -1,4 +1,5 @@
 pub mod ByteByByte
+pub mod Counts
 pub mod Fronts
 pub mod Stepping
 pub mod FirstLine

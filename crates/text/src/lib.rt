@@ -4,6 +4,7 @@ ghost use mathlib.Core.Path.{_≡_};
 ghost use mathlib.Core.Bool.{cond};
 ghost use mathlib.Core.List.{_++_};
 ghost use Prim.Native.Nat.{_+_};
+ghost use lib.Dec.{ltb};
 ghost use lib.ListN.{length, drop, getD};
 ghost use Rattle.sieve.specs.Bytes.{within, same, every, firstSuch};
 ghost use Rattle.sieve.specs.Lines.{breakBytes};
@@ -241,6 +242,17 @@ pub fn characters(s: &[u8]) -> usize
         i += 1;
     }
     n
+}
+
+// Whether a line has more than so many characters. It has no more characters than bytes, so they are counted only where
+// its bytes are more.
+pub fn longer(s: &[u8], most: usize) -> bool
+    ensures { λ r. ⌜ r ≡ ltb most (characters (now (s .entry))) ⌝ }
+{
+    if s.len() <= most {
+        return false;
+    }
+    most < characters(s)
 }
 
 // Whether two runs of bytes are the same.

@@ -1,6 +1,6 @@
 // Runs the leaves over the records on standard input, each two bytes of length (the low one first) and that many bytes,
-// and writes a line of numbers for each: what the walk finds, the breaks, the characters, the stray break, and the
-// places of lines 1, 2, 3 and 34.
+// and writes a line of numbers for each: what the walk finds, the breaks, the characters, whether they are more than 1
+// and more than 70, the stray break, and the places of lines 1, 2, 3 and 34.
 // All of the input is held at once: a stored input has at most 65,536 bytes.
 use libc::STDIN_FILENO;
 use libc::STDOUT_FILENO;
@@ -56,6 +56,15 @@ fn write_breaks(s: &[u8]) {
     }
 }
 
+// 1 where it has more than so many characters, else 0.
+fn write_longer(s: &[u8], most: usize) {
+    if text::longer(s, most) {
+        write_next(1);
+    } else {
+        write_next(0);
+    }
+}
+
 // One more than the place, or 0. A place is below the length, so that this does not wrap.
 fn write_stray(s: &[u8]) {
     match text::stray_break(s) {
@@ -74,6 +83,8 @@ fn write_answer(s: &[u8]) {
     write_walk(s);
     write_breaks(s);
     write_next(text::characters(s));
+    write_longer(s, 1);
+    write_longer(s, 70);
     write_stray(s);
     write_place(s, 1);
     write_place(s, 2);
