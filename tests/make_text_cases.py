@@ -51,9 +51,11 @@ def breaks_answer(record):
 
 
 def count_answer(record):
-    """How many characters, and 1 or 0: whether they are more than 1, and more than 70."""
+    """How many characters, and 1 or 0: whether they are more than 1, and more than 70; whether with
+    two others they are more than 4, and more than 71."""
     count = len(CHARACTER_BYTE.findall(record))
-    return [count, int(count > 1), int(count > 70)]
+    more = [count > 1, count > 70, count + 2 > 4, count + 2 > 71]
+    return [count] + [int(flag) for flag in more]
 
 
 def stray_answer(record):

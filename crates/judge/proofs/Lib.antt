@@ -1,4 +1,3 @@
-pub mod Parts
 pub mod Listing
 pub mod Listed
 pub mod Stages

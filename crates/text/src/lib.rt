@@ -255,6 +255,16 @@ pub fn longer(s: &[u8], most: usize) -> bool
     most < characters(s)
 }
 
+// Whether two lines together have more than so many characters; these, too, are counted only where the bytes are more.
+pub fn longer_together(a: &[u8], b: &[u8], most: usize) -> bool
+    ensures { λ r. ⌜ r ≡ ltb most (characters (now (a .entry)) + characters (now (b .entry))) ⌝ }
+{
+    if a.len() + b.len() <= most {
+        return false;
+    }
+    most < characters(a) + characters(b)
+}
+
 // Whether two runs of bytes are the same.
 pub fn same(a: &[u8], b: &[u8]) -> bool
     ensures { λ r. ⌜ r ≡ same (now (a .entry)) (now (b .entry)) ⌝ }

@@ -1,6 +1,6 @@
 // Runs the leaves over the records on standard input, each two bytes of length (the low one first) and that many bytes,
-// and writes a line of numbers for each: what the walk finds, the breaks, the characters, whether they are more than 1
-// and more than 70, the stray break, and the places of lines 1, 2, 3 and 34.
+// and writes a line of numbers for each: what the walk finds, the breaks, the characters and whether they are too many,
+// the stray break, and the places of lines 1, 2, 3 and 34.
 // All of the input is held at once: a stored input has at most 65,536 bytes.
 use libc::STDIN_FILENO;
 use libc::STDOUT_FILENO;
@@ -56,13 +56,23 @@ fn write_breaks(s: &[u8]) {
     }
 }
 
-// 1 where it has more than so many characters, else 0.
-fn write_longer(s: &[u8], most: usize) {
-    if text::longer(s, most) {
+fn write_flag(b: bool) {
+    if b {
         write_next(1);
     } else {
         write_next(0);
     }
+}
+
+// The characters; whether they are more than 1, and more than 70; and whether together with two others, of two and of
+// three bytes, they are more than 4, and more than 71.
+fn write_count(s: &[u8]) {
+    let others = b"\xC3\xA9\xE2\x82\xAC";
+    write_next(text::characters(s));
+    write_flag(text::longer(s, 1));
+    write_flag(text::longer(s, 70));
+    write_flag(text::longer_together(s, others, 4));
+    write_flag(text::longer_together(others, s, 71));
 }
 
 // One more than the place, or 0. A place is below the length, so that this does not wrap.
@@ -82,9 +92,7 @@ fn write_place(s: &[u8], n: usize) {
 fn write_answer(s: &[u8]) {
     write_walk(s);
     write_breaks(s);
-    write_next(text::characters(s));
-    write_longer(s, 1);
-    write_longer(s, 70);
+    write_count(s);
     write_stray(s);
     write_place(s, 1);
     write_place(s, 2);
