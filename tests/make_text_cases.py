@@ -50,6 +50,14 @@ def breaks_answer(record):
     return [0, 1 + lengths.index(3 - lengths[0])]
 
 
+def count_answer(record):
+    """How many characters, and 1 or 0: whether they are more than 1, and more than 70; whether with
+    two others they are more than 4, and more than 71."""
+    count = len(CHARACTER_BYTE.findall(record))
+    more = [count > 1, count > 70, count + 2 > 4, count + 2 > 71]
+    return [count] + [int(flag) for flag in more]
+
+
 def stray_answer(record):
     """One more than the place of the first CR or LF, or 0."""
     found = CR_OR_LF.search(record)
@@ -71,7 +79,7 @@ def answer(record):
     walked = walk_answer(record)
     # Of bytes that are not all allowed the walk tells no breaks: one line.
     numbers = walked + (breaks_answer(record) if walked[0] == 0 else [1, 1])
-    numbers += [len(CHARACTER_BYTE.findall(record))] + stray_answer(record)
+    numbers += count_answer(record) + stray_answer(record)
     for number in (1, 2, 3, 34):
         numbers += place_answer(record, number)
     return ' '.join(map(str, numbers)).encode() + b'\n'
@@ -117,6 +125,17 @@ def break_records():
             yield bytes(record)
 
 
+def length_records():
+    """About 70 characters, of one byte, of two and of three; and all of one byte but the last, or
+    but the first."""
+    for count in (69, 70, 71):
+        yield b'A' * count
+        for character in 'é€':
+            yield (character * count).encode()
+            yield ('A' * (count - 1) + character).encode()
+            yield (character + 'A' * (count - 1)).encode()
+
+
 def mixed_records():
     """Runs of edges, of allowed characters with breaks of one kind or of both, and of allowed
     characters with one edge among them."""
@@ -150,7 +169,8 @@ def bill_records():
 
 def records():
     """All records, in the order in which they are stored, each cut at the most bytes."""
-    for some in (short_records, range_records, break_records, mixed_records, bill_records):
+    for some in (short_records, range_records, break_records, length_records, mixed_records,
+                 bill_records):
         for record in some():
             yield record[:MOST_BYTES]
 

@@ -6,7 +6,7 @@ pub mod limits;
 use digits::checks10;
 use digits::checks97;
 use sieve::Fault;
-use text::characters;
+use text::longer;
 use text::same;
 ghost use mathlib.Core.Bool.{true, cond, _||_, not};
 ghost use mathlib.Core.List.{[], _∷_};
@@ -80,7 +80,7 @@ pub fn address_text(
     let empty = l.len() == 0;
     let f = rule(before, absent & !empty, Fault::NotEmpty(n));
     let f = rule(f, asked & empty, Fault::Missing(n));
-    rule(f, most < characters(l), Fault::TooLong(n))
+    rule(f, longer(l, most), Fault::TooLong(n))
 }
 
 // The country of an address.
@@ -107,11 +107,7 @@ pub fn account(before: Finding, l: &[u8]) -> Finding
 pub fn amount(before: Finding, l: &[u8]) -> Finding
     ensures { λ r. ⌜ finding r ≡ first (finding before ∷ short amountMost 19 (now (l .entry)) ∷ wellFormed 19 (amount (now (l .entry))) (now (l .entry)) ∷ []) ⌝ }
 {
-    let f = rule(
-        before,
-        limits::AMOUNT_MOST < characters(l),
-        Fault::TooLong(19),
-    );
+    let f = rule(before, longer(l, limits::AMOUNT_MOST), Fault::TooLong(19));
     rule(f, !(l.len() == 0) & !forms::amount(l), Fault::BadForm(19))
 }
 
@@ -194,22 +190,14 @@ pub fn reference(before: Finding, l: &[u8], t: ReferenceType) -> Finding
 pub fn message(before: Finding, l: &[u8]) -> Finding
     ensures { λ r. ⌜ finding r ≡ first (finding before ∷ short messageMost 30 (now (l .entry)) ∷ []) ⌝ }
 {
-    rule(
-        before,
-        limits::MESSAGE_MOST < characters(l),
-        Fault::TooLong(30),
-    )
+    rule(before, longer(l, limits::MESSAGE_MOST), Fault::TooLong(30))
 }
 
 // Billing information.
 pub fn billing(before: Finding, l: &[u8]) -> Finding
     ensures { λ r. ⌜ finding r ≡ first (finding before ∷ short billingMost 32 (now (l .entry)) ∷ wellFormed 32 (billing (now (l .entry))) (now (l .entry)) ∷ []) ⌝ }
 {
-    let f = rule(
-        before,
-        limits::BILLING_MOST < characters(l),
-        Fault::TooLong(32),
-    );
+    let f = rule(before, longer(l, limits::BILLING_MOST), Fault::TooLong(32));
     rule(f, !(l.len() == 0) & !forms::billing(l), Fault::BadForm(32))
 }
 
@@ -218,5 +206,5 @@ pub fn procedure(before: Finding, l: &[u8], n: usize, last: bool) -> Finding
     ensures { λ r. ⌜ finding r ≡ first (finding before ∷ filledIn n last (now (l .entry)) ∷ short procedureMost n (now (l .entry)) ∷ []) ⌝ }
 {
     let f = rule(before, last & (l.len() == 0), Fault::Missing(n));
-    rule(f, limits::PROCEDURE_MOST < characters(l), Fault::TooLong(n))
+    rule(f, longer(l, limits::PROCEDURE_MOST), Fault::TooLong(n))
 }

@@ -1,4 +1,3 @@
-pub mod Parts
 pub mod Listed
 pub mod Stages
 pub mod Numbers

@@ -10,7 +10,7 @@ use content::limits::TOWN_MOST;
 use content::rule;
 use digits::number;
 use sieve::Fault;
-use text::characters;
+use text::longer_together;
 use text::same;
 ghost use mathlib.Core.Bool.{cond, _&&_, not};
 ghost use mathlib.Core.List.{[], _∷_, map};
@@ -170,7 +170,7 @@ fn paired(qrr: bool, qr: bool, francs: bool) -> bool
 
 // Rules 12 and 13, about lines that go together.
 pub fn pairs(before: Finding, payload: &[u8], places: &[u16]) -> Finding
-    requires { ⌜ (now places ≡ listed (now payload)) × (length (now payload) ≤ 997) ⌝ }
+    requires { ⌜ now places ≡ listed (now payload) ⌝ }
     ensures { λ r. ⌜ finding r ≡ first (finding before ∷ map (aboutLines (linesOf (cut (now (payload .entry))))) (pairing ∷ together ∷ [])) ⌝ }
 {
     match before {
@@ -185,11 +185,11 @@ pub fn pairs(before: Finding, payload: &[u8], places: &[u16]) -> Finding
                 !paired(qrr, qr_iban, francs),
                 Fault::Unpaired(28),
             );
-            let message = characters(line(payload, places, 30));
-            let billing = characters(line(payload, places, 32));
+            let message = line(payload, places, 30);
+            let billing = line(payload, places, 32);
             rule(
                 f,
-                limits::TOGETHER_MOST < message + billing,
+                longer_together(message, billing, limits::TOGETHER_MOST),
                 Fault::TooLongTogether(32),
             )
         }
@@ -198,7 +198,7 @@ pub fn pairs(before: Finding, payload: &[u8], places: &[u16]) -> Finding
 
 // All rules about lines, in the order of the sieve.
 pub fn rules(payload: &[u8], places: &[u16], count: usize) -> Finding
-    requires { ⌜ (now places ≡ listed (now payload)) × (count ≡ length (linesOf (cut (now payload)))) × (length (now payload) ≤ 997) ⌝ }
+    requires { ⌜ (now places ≡ listed (now payload)) × (count ≡ length (linesOf (cut (now payload)))) ⌝ }
     ensures { λ r. ⌜ finding r ≡ first (map (aboutLines (linesOf (cut (now (payload .entry))))) rules) ⌝ }
 {
     let f = header(payload, places);

@@ -1,11 +1,12 @@
--- The Swiss characters are lawful. Assumes nothing.
-use Prim.Native.Nat.{ℕ, suc}
+-- The Swiss characters are lawful, and one that begins below C2 has one byte. Assumes nothing.
+use Prim.Native.Nat.{ℕ, suc, _<_}
 use native.Mathlib.Nat.{suc-ne-zero}
 use native.Mathlib.Omega.{arith}
 use mathlib.Core.Bool.{Bool, true, false, true≢false, false≢true, cond, and-false}
 use mathlib.Core.List.{[], _∷_, _++_}
 use mathlib.Core.Logic.{_≢_}
 use mathlib.Core.Path.{_≡_, refl, sym, _∙_, ap}
+use borrow.Author.Tests.{lt-leb, ne-eqb}
 use lib.ListN.{length, getD}
 use Rattle.sieve.specs.Bytes.{Bytes}
 use Rattle.sieve.specs.Lawful.{Plain, no-more, one-more, Lawful}
@@ -64,3 +65,10 @@ own (x ∷ y ∷ z ∷ c) s t n e h = h
 pub lawful : Lawful latin
 unfolding latin
 lawful = record { plain = λ s. plain _ _ _ s (one s) (two s) (three s); own = own }
+
+-- a character that begins below C2 has one byte
+pub low : (s : Bytes) → getD s 0 0 < 0xC2 → latin s ≡ cond (inOne (getD s 0 0)) 1 0
+unfolding latin
+low s h =
+    let x = getD s 0 0 in
+    rw (ne-eqb x 0xC2 (λ e. omega arith), lt-leb 0xC3 x (omega arith), ne-eqb x 0xC8 (λ e. omega arith), ne-eqb x 0xE2 (λ e. omega arith))

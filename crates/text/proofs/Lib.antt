@@ -1,4 +1,5 @@
 pub mod ByteByByte
+pub mod Counts
 pub mod Fronts
 pub mod FirstLine
 pub mod LinesAt

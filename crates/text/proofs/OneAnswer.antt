@@ -20,6 +20,12 @@ one-line-place κs a x y v w h k = (one-place _ x y h k, refl)
 pub one-characters : OneAnswer fn.characters.ended fn.characters.Reads.Learnt
 one-characters κs a x y v w h k = (h ∙ sym k, refl)
 
+pub one-longer : OneAnswer fn.longer.ended fn.longer.Reads.Learnt
+one-longer κs a x y v w h k = (h ∙ sym k, refl)
+
+pub one-longer-together : OneAnswer fn.longer_together.ended fn.longer_together.Reads.Learnt
+one-longer-together κs a x y v w h k = (h ∙ sym k, refl)
+
 pub one-same : OneAnswer fn.same.ended fn.same.Reads.Learnt
 one-same κs a x y v w h k = (h ∙ sym k, refl)
 

@@ -4,6 +4,7 @@ ghost use mathlib.Core.Path.{_≡_};
 ghost use mathlib.Core.Bool.{cond};
 ghost use mathlib.Core.List.{_++_};
 ghost use Prim.Native.Nat.{_+_};
+ghost use lib.Dec.{ltb};
 ghost use lib.ListN.{length, drop, getD};
 ghost use Rattle.sieve.specs.Bytes.{within, same, every, firstSuch};
 ghost use Rattle.sieve.specs.Lines.{breakBytes};
@@ -49,14 +50,17 @@ fn in_three(x: u8, y: u8, z: u8) -> bool
     (x == 0xE2) & (y == 0x82) & (z == 0xAC)
 }
 
-// The width of the allowed character that begins at `at`; 0 where none begins. Most characters are one byte, so its
-// neighbours are read only where it is not one of those.
+// The width of the allowed character that begins at `at`; 0 where none begins. Most characters are one byte, and all
+// others begin with C2 or more: only there are the neighbours read, and none at a break.
 pub fn width(s: &[u8], at: usize) -> usize
     ensures { λ r. ⌜ r ≡ latin (drop at (now (s .entry))) ⌝ }
 {
     let x = byte(s, at, 0);
     if in_one(x) {
         return 1;
+    }
+    if x < 0xC2 {
+        return 0;
     }
     let y = byte(s, at, 1);
     if in_two(x, y) {
@@ -163,6 +167,27 @@ pub fn characters(s: &[u8]) -> usize
         i += 1;
     }
     n
+}
+
+// Whether a line has more than so many characters. It has no more characters than bytes, so they are counted only where
+// its bytes are more.
+pub fn longer(s: &[u8], most: usize) -> bool
+    ensures { λ r. ⌜ r ≡ ltb most (characters (now (s .entry))) ⌝ }
+{
+    if s.len() <= most {
+        return false;
+    }
+    most < characters(s)
+}
+
+// Whether two lines together have more than so many characters; these, too, are counted only where the bytes are more.
+pub fn longer_together(a: &[u8], b: &[u8], most: usize) -> bool
+    ensures { λ r. ⌜ r ≡ ltb most (characters (now (a .entry)) + characters (now (b .entry))) ⌝ }
+{
+    if a.len() + b.len() <= most {
+        return false;
+    }
+    most < characters(a) + characters(b)
 }
 
 // Whether two runs of bytes are the same.

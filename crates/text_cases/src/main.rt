@@ -1,6 +1,6 @@
 // Runs the leaves over the records on standard input, each two bytes of length (the low one first) and that many bytes,
-// and writes a line of numbers for each: what the walk tells of its bytes and of its breaks, the characters, the stray
-// break, and the places of lines 1, 2, 3 and 34.
+// and writes a line of numbers for each: what the walk tells of its bytes and of its breaks, the characters and whether
+// they are too many, the stray break, and the places of lines 1, 2, 3 and 34.
 // All of the input is held at once: a stored input has at most 65,536 bytes.
 use libc::STDIN_FILENO;
 use libc::STDOUT_FILENO;
@@ -56,6 +56,25 @@ fn write_parted(parted: Parted) {
     }
 }
 
+fn write_flag(b: bool) {
+    if b {
+        write_next(1);
+    } else {
+        write_next(0);
+    }
+}
+
+// The characters; whether they are more than 1, and more than 70; and whether together with two others, of two and of
+// three bytes, they are more than 4, and more than 71.
+fn write_count(s: &[u8]) {
+    let others = b"\xC3\xA9\xE2\x82\xAC";
+    write_next(text::characters(s));
+    write_flag(text::longer(s, 1));
+    write_flag(text::longer(s, 70));
+    write_flag(text::longer_together(s, others, 4));
+    write_flag(text::longer_together(others, s, 71));
+}
+
 // One more than the place, or 0. A place is below the length, so that this does not wrap.
 fn write_stray(s: &[u8]) {
     match text::stray_break(s) {
@@ -76,7 +95,7 @@ fn write_answer(s: &[u8]) {
     let parted = told.parted;
     write_walked(walked);
     write_parted(parted);
-    write_next(text::characters(s));
+    write_count(s);
     write_stray(s);
     write_place(s, 1);
     write_place(s, 2);

@@ -10,8 +10,8 @@ rule-requires c κs = search needs
 rule-requires-2 : tie.Need-rule-requires-2
 rule-requires-2 c κs = search needs
 
-characters-requires : tie.Need-characters-requires
-characters-requires c κs = search needs
+longer-requires : tie.Need-longer-requires
+longer-requires c κs = search needs
 
 rule-requires-3 : tie.Need-rule-requires-3
 rule-requires-3 c κs = search needs
@@ -19,8 +19,8 @@ rule-requires-3 c κs = search needs
 returns : tie.Need-returns
 returns c =
     let d = c .before .before in
-    then _ _ (then _ _ (d .before .rule .ensures) (d .rule2 .ensures)) (rw (c .before .characters .ensures) at (c .rule3 .ensures))
+    then _ _ (then _ _ (d .before .rule .ensures) (d .rule2 .ensures)) (rw (c .before .longer .ensures) at (c .rule3 .ensures))
 
 pub address-text-spec : {M : Type 1} → statement M
 address-text-spec =
-    tie.close (tie.spec rule-requires rule-requires-2 characters-requires rule-requires-3 returns)
+    tie.close (tie.spec rule-requires rule-requires-2 longer-requires rule-requires-3 returns)

@@ -4,8 +4,8 @@ use borrow.Author.Needs.{needs}
 use Rattle.content.proofs.billing.Statement.{statement}
 use Rattle.content.proofs.billing.Tie as tie
 
-characters-requires : tie.Need-characters-requires
-characters-requires c κs = search needs
+longer-requires : tie.Need-longer-requires
+longer-requires c κs = search needs
 
 rule-requires : tie.Need-rule-requires
 rule-requires c κs = search needs
@@ -19,8 +19,8 @@ rule-requires-2 c κs = search needs
 returns : tie.Need-returns
 returns c =
     let d = c .before .before in
-    then _ _ (rw (d .before .characters .ensures) at (d .rule .ensures)) (rw (c .before .billing .ensures) at (c .rule2 .ensures))
+    then _ _ (rw (d .before .longer .ensures) at (d .rule .ensures)) (rw (c .before .billing .ensures) at (c .rule2 .ensures))
 
 pub billing-spec : {M : Type 1} → statement M
 billing-spec =
-    tie.close (tie.spec characters-requires rule-requires billing-requires rule-requires-2 returns)
+    tie.close (tie.spec longer-requires rule-requires billing-requires rule-requires-2 returns)

@@ -7,14 +7,14 @@ use Rattle.content.proofs.procedure.Tie as tie
 rule-requires : tie.Need-rule-requires
 rule-requires c κs = search needs
 
-characters-requires : tie.Need-characters-requires
-characters-requires c κs = search needs
+longer-requires : tie.Need-longer-requires
+longer-requires c κs = search needs
 
 rule-requires-2 : tie.Need-rule-requires-2
 rule-requires-2 c κs = search needs
 
 returns : tie.Need-returns
-returns c = then _ _ (c .before .before .rule .ensures) (rw (c .before .characters .ensures) at (c .rule2 .ensures))
+returns c = then _ _ (c .before .before .rule .ensures) (rw (c .before .longer .ensures) at (c .rule2 .ensures))
 
 pub procedure-spec : {M : Type 1} → statement M
-procedure-spec = tie.close (tie.spec rule-requires characters-requires rule-requires-2 returns)
+procedure-spec = tie.close (tie.spec rule-requires longer-requires rule-requires-2 returns)

@@ -1,9 +1,4 @@
-use Rattle.sieve.specs.Rules.{line}
-use Rattle.sieve.specs.Lines.{cut, linesOf}
-use Rattle.sieve.specs.Characters.{characters}
-use Rattle.judge.proofs.Parts.{characters-few, line-within}
-use native.Mathlib.Omega.{arith}
-use mathlib.Core.Path.{sym, ap, _∙_}
+use mathlib.Core.Path.{sym}
 use Rattle.content.proofs.Firsts.{then, first-some}
 use borrow.Author.Needs.{needs}
 use Rattle.judge.proofs.groups.pairs.Statement.{statement}
@@ -48,30 +43,11 @@ rule-requires c κs = search needs
 line-requires-4 : tie.Need-line-requires-4
 line-requires-4 c κs = search needs
 
-characters-requires : tie.Need-characters-requires
-characters-requires c κs = search needs
-
 line-requires-5 : tie.Need-line-requires-5
 line-requires-5 c κs = search needs
 
-characters-requires-2 : tie.Need-characters-requires-2
-characters-requires-2 c κs = search needs
-
-add-rule : tie.Need-add-rule
-add-rule c =
-    let p = c .before .before .before .before .before .before .before .before .before .before .before .before .before .before .before .before .before .before .args .payload .now in
-    let a = c .before .before .characters .ensures in
-    let b = c .characters2 .ensures in
-    omega (
-      arith,
-      c .before .before .before .before .before .before .before .before .before .before .before .before .before .before .before .before .before .before .pre .1,
-      characters-few (line 30 (linesOf (cut p))),
-      line-within p 30,
-      characters-few (line 32 (linesOf (cut p))),
-      line-within p 32,
-      a ∙ ap characters (c .before .before .before .line4 .ensures),
-      b ∙ ap characters (c .before .line5 .ensures),
-    )
+longer-together-requires : tie.Need-longer-together-requires
+longer-together-requires c κs = search needs
 
 rule-requires-2 : tie.Need-rule-requires-2
 rule-requires-2 c κs = search needs
@@ -81,9 +57,9 @@ returns c = rw (c .before .before2 .given .1) (sym (first-some _ _))
 
 returns-2 : tie.Need-returns-2
 returns-2 c =
-    rw (c .before .before .before .before .before .before .before .before .before .before .before .before .before .before .before .enum-told .given .1)
-    (then _ _ (rw (c .before .before .before .before .before .before .paired .ensures, c .before .before .before .before .before .before .before .before .before .before .same .ensures, c .before .before .before .before .before .before .before .same2 .ensures, c .before .before .before .before .before .before .before .before .before .before .before .before .before .iid .ensures, c .before .before .before .before .before .before .before .before .before .before .before .before .before .before .line .ensures, c .before .before .before .before .before .before .before .before .before .before .before .before .line2 .ensures, c .before .before .before .before .before .before .before .before .before .line3 .ensures) at (c .before .before .before .before .before .rule .ensures))
-    (rw (c .before .before .before .characters .ensures, c .before .characters2 .ensures, c .before .before .before .before .line4 .ensures, c .before .before .line5 .ensures) at (c .rule2 .ensures)))
+    rw (c .before .before .before .before .before .before .before .before .before .before .before .before .before .before .enum-told .given .1)
+    (then _ _ (rw (c .before .before .before .before .before .paired .ensures, c .before .before .before .before .before .before .before .before .before .same .ensures, c .before .before .before .before .before .before .same2 .ensures, c .before .before .before .before .before .before .before .before .before .before .before .before .iid .ensures, c .before .before .before .before .before .before .before .before .before .before .before .before .before .line .ensures, c .before .before .before .before .before .before .before .before .before .before .before .line2 .ensures, c .before .before .before .before .before .before .before .before .line3 .ensures) at (c .before .before .before .before .rule .ensures))
+    (rw (c .before .longer-together .ensures, c .before .before .before .line4 .ensures, c .before .before .line5 .ensures) at (c .rule2 .ensures)))
 
 pub pairs-spec : {M : Type 1} → statement M
 pairs-spec =
@@ -102,10 +78,8 @@ pairs-spec =
     paired-requires
     rule-requires
     line-requires-4
-    characters-requires
     line-requires-5
-    characters-requires-2
-    add-rule
+    longer-together-requires
     rule-requires-2
     returns
     returns-2)
