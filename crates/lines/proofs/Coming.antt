@@ -1,42 +1,48 @@
 -- The walk, a step at a time: the line that it is in, the breaks that it has passed, and the lines that are noted. Assumes nothing.
-use Prim.Native.Nat.{ℕ, suc, _+_, _-_, _*_, _≤_, _<_}
+use Prim.Native.Nat.{ℕ, _+_, _-_, _*_, _≤_, _<_}
 use native.Mathlib.Nat.{zero-add}
 use native.Mathlib.Omega.{arith}
 use mathlib.Core.Bool.{Bool, true, false, cond, not, _&&_}
-use mathlib.Core.List.{List, [], _∷_, _++_}
+use mathlib.Core.List.{List, [], _∷_}
 use mathlib.Core.Logic.{_≢_}
 use mathlib.Core.Path.{_≡_, refl, sym, ap, _∙_}
 use lib.Dec.{eqb, ltb, leb}
-use lib.ListN.{length, take, drop, set, replicate, length-set, length-drop}
+use lib.ListN.{length, getD, drop, set, replicate, length-set}
 use lib.Seq.{drop-drop}
-use borrow.Author.Tests.{eqb-true, eqb-false, ltb-true, ltb-false, eq-eqb, ne-eqb, lt-ltb, le-ltb, le-leb}
+use borrow.Author.Tests.{eqb-true, eqb-false, ltb-true, ltb-false, ne-eqb, le-ltb, le-leb}
 use Rattle.sieve.specs.declared.Break.{Break}
 use Rattle.sieve.specs.Bytes.{Bytes}
 use Rattle.sieve.specs.Lines.{breakBytes, cut, breaksOf, kind}
 use Rattle.sieve.specs.Characters.{breakWidth}
 use Rattle.sieve.specs.Lawful.{Plain, no-more, one-more}
 use Rattle.sieve.specs.Places.{entries}
-use Rattle.swiss.specs.Latin.{latin}
+use Rattle.swiss.specs.Latin.{inOne, latin}
 use Rattle.swiss.proofs.Latin.{lawful}
 use Rattle.text.specs.declared.LineAt.{LineAt}
 use Rattle.text.specs.Results.{IsLineAt}
 use Rattle.text.specs.LinesIn.{linesIn}
+use Rattle.text.proofs.ByteByByte.{next}
 use Rattle.text.proofs.FirstLine.{stops, ends}
-use Rattle.text.proofs.LinesAt.{some-width, within}
+use Rattle.text.proofs.LinesAt.{within}
 use Rattle.lines.specs.declared.Kinds.{Kinds}
 use Rattle.lines.specs.declared.Parted.{Parted}
 use Rattle.lines.specs.declared.Parted.the-variants.{Alike, Unlike}
 use Rattle.lines.specs.Listed.{listed, listedOf, Filled}
 use Rattle.lines.specs.Walking.{greatest, ofWidth, breaksIn, heldBy, partedBy, noted}
 use Rattle.lines.proofs.Stepping.{Come, starts, over-character, over-break}
-use Rattle.lines.proofs.Parting.{partedFrom, no-more as none-more, alike, unlike, from-first, Broken, unbroken, broken}
-use Rattle.lines.proofs.Listing.{filled-more}
+use Rattle.lines.proofs.Parting.{partedFrom, no-more as none-more, alike, unlike, from-first, unbroken, broken}
+use Rattle.lines.proofs.Listing.{filled-more, filled-all}
 
 -- bytes that are neither CR nor LF are of the line
 plain-first : {n : ℕ} {t : Bytes} → Plain n t → length (cut t .first) ≡ n + length (cut (drop n t) .first)
 unfolding cut
 plain-first no-more = sym (zero-add _)
 plain-first (one-more {x = x} a b p) = rw (ne-eqb x 10 a, ne-eqb x 13 b) (omega (arith, plain-first p))
+
+-- a byte that is a character by itself
+pub by-itself : (s : Bytes) (at : ℕ) → at < length s → inOne (getD s at 0) ≡ true → 1 ≡ latin (drop at s)
+unfolding latin
+by-itself s at h e = rw (next s at h, e)
 
 -- how the lines are parted, if these breaks come behind n - 1 others
 abbrev heldFrom : Kinds → ℕ → List Break → Parted
@@ -67,14 +73,14 @@ all-held k n = ap (λ (x : Parted). cond (eqb (k .unlike) 0) x (Unlike (k .unlik
     go true e = rw (eqb-true (k .first) 0 e)
     go false e = refl
 
-few-listed : (n : ℕ) → n ≤ 34 → listedOf n ≡ n
+pub few-listed : (n : ℕ) → n ≤ 34 → listedOf n ≡ n
 few-listed n h = go (ltb n 34) refl
   where
     go : (b : Bool) → ltb n 34 ≡ b → cond b n 34 ≡ n
     go true e = refl
     go false e = omega (arith, ltb-false n 34 e)
 
-many-listed : (n : ℕ) → 34 ≤ n → listedOf n ≡ 34
+pub many-listed : (n : ℕ) → 34 ≤ n → listedOf n ≡ 34
 many-listed n h = rw (le-ltb n 34 h)
 
 -- a line more that is noted, or one that is not among those that are listed
@@ -86,7 +92,7 @@ module _ (s : Bytes) (l : List ℕ) (start feeds : ℕ) (size : length l ≡ 68)
       go true = simp length-set size
       go false = size
 
-  one-noted : (r : LineAt) → IsLineAt s start r → start ≤ length s → length s ≤ greatest → Filled s l start (listedOf feeds) → Filled s (noted l feeds start (r .end - start)) (r .next) (listedOf (feeds + 1))
+  pub one-noted : (r : LineAt) → IsLineAt s start r → start ≤ length s → length s ≤ greatest → Filled s l start (listedOf feeds) → Filled s (noted l feeds start (r .end - start)) (r .next) (listedOf (feeds + 1))
   unfolding entries
   one-noted r is h short e = go (ltb feeds 34) refl
     where
@@ -99,6 +105,18 @@ module _ (s : Bytes) (l : List ℕ) (start feeds : ℕ) (size : length l ≡ 68)
       go false many =
           let next = many-listed (feeds + 1) (omega (arith, ltb-false feeds 34 many)) in
           rw (many, next) (rw many at e)
+
+-- an absent line more: past the last line the next one starts at the end, and is empty
+pub one-absent : (s : Bytes) (l : List ℕ) (i : ℕ) → i < 34 → length l ≡ 68 → Filled s l (length s) (listedOf i) → Filled s (set (set l (2 * i) (length s)) (2 * i + 1) 0) (length s) (listedOf (i + 1))
+one-absent s l i h size e =
+    let (empty, none) = ends s (length s) (omega arith) in
+    let r : LineAt = record { end = length s; next = length s } in
+    let is : IsLineAt s (length s) r = record { end = omega arith; next = omega arith } in
+    let nothing : length s - length s ≡ 0 = omega arith in
+    rw (few-listed (i + 1) (omega arith), ← nothing) (filled-more s l (length s) i r is (omega arith) h size (rw (few-listed i (omega arith)) at e))
+
+pub all-listed : (s : Bytes) (l : List ℕ) (at i : ℕ) → 34 ≤ i → length l ≡ 68 → Filled s l at (listedOf i) → l ≡ listed s
+all-listed s l at i h size e = filled-all s l at 34 (omega arith) (omega arith) size (rw (many-listed i h) at e)
 
 -- where the walk has come to
 pub record Here (s : Bytes) (l : List ℕ) (at start feeds : ℕ) (k : Kinds) : Type 0 where
@@ -169,3 +187,7 @@ module _ (s : Bytes) (l : List ℕ) (at start feeds : ℕ) (k : Kinds) (here : H
       let r : LineAt = record { end = at; next = at } in
       let is : IsLineAt s start r = record { end = omega (arith, here .line); next = omega arith } in
       sym (here .breaks ∙ ap (heldFrom k (feeds + 1)) (unbroken s start r is (omega arith)) ∙ all-held k (feeds + 1))
+
+  -- the last line ends with the bytes
+  pub line-ends : length s ≤ at → start + length (cut (drop start s) .first) ≡ length s
+  line-ends h = omega (arith, here .line, ends s at h .0, here .come .within)

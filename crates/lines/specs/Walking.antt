@@ -1,11 +1,11 @@
 -- What one walk over any bytes tells. Assumes nothing.
-use Prim.Native.Nat.{ℕ, _+_, _-_, _*_, _≤_}
-use mathlib.Core.Bool.{Bool, true, false, cond, not, _&&_}
+use Prim.Native.Nat.{ℕ, _+_, _*_, _≤_}
+use mathlib.Core.Bool.{cond, not, _&&_}
 use mathlib.Core.List.{List}
 use mathlib.Core.Option.{Option, some, none}
 use mathlib.Core.Path.{_≡_}
 use lib.Dec.{eqb, ltb, leb}
-use lib.ListN.{length, take, set, replicate}
+use lib.ListN.{length, take, drop, set, replicate}
 use Rattle.sieve.specs.declared.Break.{Break}
 use Rattle.sieve.specs.declared.Break.the-variants.{Lf, CrLf}
 use Rattle.sieve.specs.Bytes.{Bytes, firstSuch}
@@ -71,4 +71,5 @@ pub record IsCame (s : Bytes) (r : Came) : Type 0 where
   pub size : length (r .places) ≡ 68
   pub fits : r .feeds ≤ length s
   pub parted : r .walked ≡ Clean → partedBy (r .kinds) (r .feeds + 1) ≡ breaksIn s
+  pub last : r .walked ≡ Clean → r .start + length (cut (drop (r .start) s) .first) ≡ length s
   pub filled : r .walked ≡ Clean → length s ≤ greatest → Filled s (r .places) (r .start) (listedOf (r .feeds))

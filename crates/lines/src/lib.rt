@@ -1,7 +1,7 @@
 // The walk over a payload: its characters, its breaks, and where its lines lie.
 use sieve::Break;
 use text::break_width;
-use text::line_at;
+use text::in_one;
 use text::width;
 ghost use mathlib.Core.Bool.{cond};
 ghost use mathlib.Core.Path.{_≡_};
@@ -87,7 +87,8 @@ fn note(places: &mut [u16], n: usize, start: usize, bytes: usize)
 }
 
 // Walks line by line, and in each line character by character, to the first place where neither a character nor a
-// break begins. What ends a line is one LF, alone or after CR, so the lines are counted by their LF.
+// break begins. What ends a line is one LF, alone or after CR, so the lines are counted by their LF. Most characters are
+// one byte, and are passed by the shortest way.
 fn come(s: &[u8]) -> Came
     ensures { λ r. ⌜ IsCame (now (s .entry)) r ⌝ }
 {
@@ -102,6 +103,10 @@ fn come(s: &[u8]) -> Came
     let mut walked = Walked::Clean;
     'lines: while at < s.len() {
         while at < s.len() {
+            if in_one(s[at]) {
+                at += 1;
+                continue;
+            }
             let n = width(s, at);
             if n == 0 {
                 let b = break_width(s, at);
@@ -147,40 +152,35 @@ fn parted_by(kinds: Kinds, n: usize) -> Parted
     Parted::Unlike(unlike)
 }
 
-// The list, with the lines from `start` on behind n that are noted. Past the last line the finder stays at the end, so an
-// absent line gets the count of all bytes and 0.
-fn list_rest(s: &[u8], noted: [u16; 68], start: usize, n: usize) -> [u16; 68]
-    requires { ⌜ (length (now s) ≤ 65535) × (start ≤ length (now s)) × (n ≤ 34) × (length noted ≡ 68) × Filled (now s) noted start n ⌝ }
+// The list, in which n lines are noted: an absent line gets the count of all bytes and 0.
+fn list_absent(s: &[u8], noted: [u16; 68], n: usize) -> [u16; 68]
+    requires { ⌜ (length (now s) ≤ 65535) × (length noted ≡ 68) × Filled (now s) noted (length (now s)) (listedOf n) ⌝ }
     ensures { λ r. ⌜ r ≡ listed (now (s .entry)) ⌝ }
 {
     let mut places = noted;
-    let mut at = start;
+    let end = s.len();
     let mut i = n;
     while i < LISTED {
-        let l = line_at(s, at);
-        let bytes = l.end - at;
-        places[2 * i] = at as u16;
-        places[2 * i + 1] = bytes as u16;
-        at = l.next;
+        places[2 * i] = end as u16;
+        places[2 * i + 1] = 0;
         i += 1;
     }
     places
 }
 
-// The list of bytes of which none is bad.
+// The list of bytes of which none is bad: their last line ends with them.
 fn list(s: &[u8], came: Came) -> [u16; 68]
-    requires { ⌜ (came .start ≤ length (now s)) × (length (came .places) ≡ 68) × (length (now s) ≤ 65535 → Filled (now s) (came .places) (came .start) (listedOf (came .feeds))) ⌝ }
+    requires { ⌜ IsCame (now s) came × (came .walked ≡ Walked.Clean) ⌝ }
     ensures { λ r. ⌜ r ≡ cond (leb (length (now (s .entry))) greatest) (listed (now (s .entry))) (replicate 68 0) ⌝ }
 {
     if GREATEST < s.len() {
         return [0; 68];
     }
-    let places = came.places;
+    let mut places = came.places;
+    let start = came.start;
     let feeds = came.feeds;
-    if feeds < LISTED {
-        return list_rest(s, places, came.start, feeds);
-    }
-    list_rest(s, places, came.start, LISTED)
+    note(&mut places, feeds, start, s.len() - start);
+    list_absent(s, places, feeds + 1)
 }
 
 // The whole walk, over any bytes.

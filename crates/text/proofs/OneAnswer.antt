@@ -5,6 +5,9 @@ use Rattle.text.proofs.LinesAt.{one-line}
 use Rattle.text.proofs.LinesLie.{one-place}
 use Rattle.text.proofs as fn
 
+pub one-in-one : OneAnswer fn.in_one.ended fn.in_one.Reads.Learnt
+one-in-one κs a x y v w h k = (h ∙ sym k, refl)
+
 pub one-width : OneAnswer fn.width.ended fn.width.Reads.Learnt
 one-width κs a x y v w h k = (h ∙ sym k, refl)
 

@@ -27,8 +27,8 @@ fn byte(s: &[u8], at: usize, k: usize) -> u8
     0
 }
 
-// 20 to 7E.
-fn in_one(x: u8) -> bool
+// Whether a byte is a character by itself: 20 to 7E.
+pub fn in_one(x: u8) -> bool
     ensures { λ r. ⌜ r ≡ inOne x ⌝ }
 {
     (0x20 <= x) & (x <= 0x7E)

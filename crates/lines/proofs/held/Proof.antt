@@ -1,6 +1,5 @@
 -- `lines::held` meets its contract. Assumes nothing.
 use borrow.Author.Tests.{eq-eqb, ne-eqb}
-use borrow.Author.Needs.{needs}
 use Rattle.lines.proofs.held.Statement.{statement}
 use Rattle.lines.proofs.held.Tie as tie
 

@@ -44,7 +44,7 @@ parted-by-requires : tie.Need-parted-by-requires
 parted-by-requires c κs = search needs
 
 list-requires : tie.Need-list-requires
-list-requires c κs = let r = c .before .before .before .before .before .come .ensures in let clean = c .before .before .before .enum-told .given .1 in (r .start, r .size, r .filled clean)
+list-requires c κs = (c .before .before .before .before .before .come .ensures, c .before .before .before .enum-told .given .1)
 
 returns : tie.Need-returns
 returns c = bad-told (c .before .before .before .before .before .args .s .now) (badPlace latin (c .before .before .before .before .before .args .s .now)) _ _ (sym (c .before .walked .given .1) ∙ c .before .before .before .come .ensures .walked)
