@@ -57,6 +57,11 @@ struct Came {
     places: [u16; 68],
 }
 
+const NO_BREAKS: Kinds = Kinds {
+    first: 0,
+    unlike: 0,
+};
+
 // One break more, which ends line n.
 fn held(kinds: Kinds, width: usize, n: usize) -> Kinds
     ensures { λ r. ⌜ r ≡ heldBy kinds width n ⌝ }
@@ -96,10 +101,7 @@ fn come(s: &[u8]) -> Came
     let mut at = 0;
     let mut start = 0;
     let mut feeds = 0;
-    let mut kinds = Kinds {
-        first: 0,
-        unlike: 0,
-    };
+    let mut kinds = NO_BREAKS;
     let mut walked = Walked::Clean;
     'lines: while at < s.len() {
         while at < s.len() {
