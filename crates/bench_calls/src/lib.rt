@@ -33,6 +33,7 @@ fn mark_of(brk: Break) -> u32
     }
 }
 
+// The kind of break that a flag asks for.
 fn break_for(crlf: bool) -> Break
     ensures { λ r. ⌜ r ≡ breakFor crlf ⌝ }
 {
