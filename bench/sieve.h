@@ -1,7 +1,8 @@
 /* The same sieve in plain C, to compare with: tested, not proved.
 
-   It has the two calls of qrbill.h and, beside them, the reader that fills a list and the writer.
-   A list is of 16-bit numbers, start and byte length of each of 34 lines. */
+   It has the two calls of qrbill.h and, beside them, the reader that fills a list and the writer,
+   which our code has in the crate `bench_calls`. A list is of 16-bit numbers, start and byte length
+   of each of 34 lines. */
 
 #ifndef SIEVE_H
 #define SIEVE_H

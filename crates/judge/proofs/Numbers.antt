@@ -26,15 +26,15 @@ use Rattle.swiss.proofs.DemandThree.{swiss-demand-three}
 use Rattle.text.proofs.Fronts.{feeds-few}
 
 -- what is found names a line below 1000
-abbrev Low : Option Refusal → Type 0
+abbrev pub Low : Option Refusal → Type 0
 Low o = (r : Refusal) → o ≡ some r → r .line < 1000
 
-low-first : (o : Option Refusal) (os : List (Option Refusal)) → Low o → Low (first os) → Low (first (o ∷ os))
+pub low-first : (o : Option Refusal) (os : List (Option Refusal)) → Low o → Low (first os) → Low (first (o ∷ os))
 unfolding first
 low-first none os h k r e = k r e
 low-first (some q) os h k r e = h r e
 
-low-found : (b : Bool) (q : Refusal) → q .line < 1000 → Low (found b q)
+pub low-found : (b : Bool) (q : Refusal) → q .line < 1000 → Low (found b q)
 low-found true q h r e = let s : q ≡ r = cc in rw (← s) h
 low-found false q h r e = let z : _≡_ {A = ℕ} 0 1 = cc in absurd (omega arith)
 

@@ -25,7 +25,7 @@ use Rattle.sieve.proofs.ReaderPromises.{spans-front}
 use Rattle.sieve.proofs.Strays.{unstray-clean, clean-unstray}
 use Rattle.sieve.proofs.DemandThree.{demand-three, keeps-clean, accepted-keeps}
 
-handed-length : (text : Bytes) (list : List ℕ) (n : ℕ) → length (handed text list n) ≡ n
+pub handed-length : (text : Bytes) (list : List ℕ) (n : ℕ) → length (handed text list n) ≡ n
 unfolding handed spans
 handed-length text list zero = refl
 handed-length text list (suc n) = ap suc (handed-length text (drop 2 list) n)
