@@ -13,7 +13,7 @@ ghost use Rattle.swiss.specs.Latin.{latin};
 ghost use Rattle.lines.specs.Listed.{listed, listedOf, Filled};
 ghost use Rattle.lines.specs.Walking.{greatest, ofWidth, partedBy, noted, heldBy, IsCame, IsTold};
 
-// The most lines that are listed.
+// The most lines that are listed: as many as a bill may have.
 const LISTED: usize = 34;
 
 // The greatest number of 16 bits.

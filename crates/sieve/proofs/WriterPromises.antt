@@ -4,7 +4,6 @@ use native.Mathlib.Omega.{arith}
 use mathlib.Core.List.{List, [], _∷_, _++_, map}
 use mathlib.Core.Option.{Option, some, none}
 use mathlib.Core.Path.{_≡_, refl, sym, _∙_, ap, subst}
-use lib.Dec.{ltb}
 use lib.ListN.{length, drop, length-append}
 use borrow.Author.Tests.{le-ltb, le-leb, not-false}
 use Rattle.sieve.specs.declared.Break.{Break}

@@ -1,16 +1,13 @@
 -- What the functions' enums and structs mean. Assumes nothing.
 use Prim.Native.Nat.{ℕ, _+_}
-use mathlib.Core.Bool.{Bool, cond, not, _||_}
-use mathlib.Core.List.{List}
+use mathlib.Core.Bool.{Bool}
 use mathlib.Core.Option.{Option, some, none}
 use mathlib.Core.Path.{_≡_}
 use lib.Dec.{eqb}
-use lib.ListN.{length, take, drop}
-use Rattle.sieve.specs.declared.Break.{Break}
-use Rattle.sieve.specs.declared.Break.the-variants.{Lf, CrLf}
-use Rattle.sieve.specs.Bytes.{Bytes, firstSuch}
-use Rattle.sieve.specs.Lines.{cut, breaksOf, kind, sameBreak}
-use Rattle.sieve.specs.Characters.{breakWidth, lineFeeds}
+use lib.ListN.{length, drop}
+use Rattle.sieve.specs.Bytes.{Bytes}
+use Rattle.sieve.specs.Lines.{cut}
+use Rattle.sieve.specs.Characters.{breakWidth}
 use Rattle.sieve.specs.Places.{Placed}
 use Rattle.swiss.specs.Letters.{digit, capital, digitOrCapital, alphanumeric}
 use Rattle.text.specs.declared.LineAt.{LineAt}

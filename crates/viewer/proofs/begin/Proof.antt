@@ -1,7 +1,6 @@
 -- `viewer::begin` meets its contract. Assumes nothing.
-use Rattle.viewer.specs.View.{opened}
 use Rattle.swiss.specs.Swiss.{swiss}
-use Rattle.sieve.specs.Verdict.{Verdict, accepted, refused, verdict}
+use Rattle.sieve.specs.Verdict.{accepted, refused, verdict}
 use Rattle.sieve.specs.Paper.{paper, paperFault}
 use mathlib.Core.Path.{_≡_, sym, ap, _∙_}
 use borrow.Author.Needs.{needs}

@@ -1,3 +1,4 @@
+-- `content::forms::amount` meets its contract: its parts are the digits before the point, the point and the cents. Assumes nothing.
 use native.Mathlib.Nat.{sub-zero}
 use native.Mathlib.Omega.{arith}
 use Prim.Native.Nat.{_-_}

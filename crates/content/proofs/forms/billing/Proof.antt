@@ -1,3 +1,4 @@
+-- `content::forms::billing` meets its contract. Assumes nothing.
 use borrow.Author.Tests.{le-leb, lt-leb}
 use borrow.Author.Needs.{needs}
 use Rattle.content.proofs.forms.billing.Statement.{statement}

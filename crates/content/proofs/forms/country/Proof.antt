@@ -1,3 +1,4 @@
+-- `content::forms::country` meets its contract. Assumes nothing.
 use borrow.Author.Needs.{needs}
 use Rattle.content.proofs.forms.country.Statement.{statement}
 use Rattle.content.proofs.forms.country.Tie as tie

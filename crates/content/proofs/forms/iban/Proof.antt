@@ -1,3 +1,4 @@
+-- `content::forms::iban` meets its contract: country, check pair and IID, and the account are parts of the line. Assumes nothing.
 use borrow.Author.Tests.{eq-eqb, ne-eqb}
 use borrow.Author.Needs.{needs}
 use Rattle.content.proofs.forms.iban.Statement.{statement}

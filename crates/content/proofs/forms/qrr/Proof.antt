@@ -1,3 +1,4 @@
+-- `content::forms::qrr` meets its contract. Assumes nothing.
 use borrow.Author.Needs.{needs}
 use Rattle.content.proofs.forms.qrr.Statement.{statement}
 use Rattle.content.proofs.forms.qrr.Tie as tie

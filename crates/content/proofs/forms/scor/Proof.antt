@@ -1,3 +1,4 @@
+-- `content::forms::scor` meets its contract: RF, the check pair and the rest are parts of the line. Assumes nothing.
 use Rattle.content.proofs.Parts.{rest}
 use borrow.Author.Tests.{le-leb, lt-leb}
 use borrow.Author.Needs.{needs}

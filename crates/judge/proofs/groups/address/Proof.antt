@@ -1,3 +1,4 @@
+-- `judge::groups::address` meets its contract: the findings of seven lines, put end to end, are those of the address. Assumes nothing.
 use native.Mathlib.Omega.{arith}
 use mathlib.Core.Path.{sym, _∙_}
 use Rattle.content.proofs.Firsts.{then, first-some, pass-over}

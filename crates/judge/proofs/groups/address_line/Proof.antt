@@ -1,3 +1,4 @@
+-- `judge::groups::address_line` meets its contract. Assumes nothing.
 use borrow.Author.Needs.{needs}
 use Rattle.judge.proofs.groups.address_line.Statement.{statement}
 use Rattle.judge.proofs.groups.address_line.Tie as tie

@@ -1,3 +1,4 @@
+-- `judge::groups::header` meets its contract: the findings of three lines, put end to end. Assumes nothing.
 use mathlib.Core.Path.{_∙_}
 use Rattle.content.proofs.Firsts.{then, first-none}
 use borrow.Author.Needs.{needs}

@@ -1,3 +1,4 @@
+-- `judge::groups::iid` meets its contract: characters 5 to 9, or as many of them as there are. Assumes nothing.
 use Prim.Native.Nat.{_≤_}
 use Rattle.swiss.specs.Mod97.{number}
 use native.Mathlib.Omega.{arith}

@@ -1,3 +1,4 @@
+-- `judge::groups::information` meets its contract: the findings of lines 30 to 34, put end to end. Assumes nothing.
 use mathlib.Core.Path.{sym}
 use Rattle.content.proofs.Firsts.{then, first-some}
 use borrow.Author.Needs.{needs}

@@ -1,3 +1,4 @@
+-- `judge::groups::paired` meets its contract. Assumes nothing.
 use Rattle.judge.proofs.groups.paired.Statement.{statement}
 use Rattle.judge.proofs.groups.paired.Tie as tie
 

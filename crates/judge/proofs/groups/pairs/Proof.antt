@@ -1,3 +1,4 @@
+-- `judge::groups::pairs` meets its contract: rules 12 and 13, on the lines that they speak of. Assumes nothing.
 use mathlib.Core.Path.{sym}
 use Rattle.content.proofs.Firsts.{then, first-some}
 use borrow.Author.Needs.{needs}

@@ -1,3 +1,4 @@
+-- `judge::groups::payment` meets its contract. Assumes nothing.
 use mathlib.Core.Path.{sym}
 use Rattle.content.proofs.Firsts.{then, first-some}
 use borrow.Author.Needs.{needs}

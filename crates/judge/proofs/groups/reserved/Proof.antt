@@ -1,3 +1,4 @@
+-- `judge::groups::reserved` meets its contract: the findings of seven lines, put end to end. Assumes nothing.
 use native.Mathlib.Omega.{arith}
 use Rattle.content.proofs.Firsts.{then}
 use borrow.Author.Needs.{needs}

@@ -1,3 +1,4 @@
+-- `judge::groups::rules` meets its contract: the groups, one after the other, are the whole list of rules. Assumes nothing.
 use mathlib.Core.List.{flatten}
 use Rattle.swiss.specs.Swiss.{rules}
 use Rattle.content.proofs.Firsts.{then}

@@ -1,3 +1,4 @@
+-- `judge::places::line` meets its contract: the list says where the line lies. Assumes nothing.
 use Rattle.judge.proofs.Listed.{listed-length, LineAtPlace, listed-line, part-is-line}
 use lib.ListN.{length, getD}
 use mathlib.Core.Path.{ap}
