@@ -1,6 +1,7 @@
 -- What loops that go byte by byte lean on: what is left from a place on, the first byte that passes a test, and sameness. Assumes nothing.
 use Prim.Native.Nat.{ℕ, suc, _+_, _≤_, _<_}
 use native.Mathlib.Numerals.{add-one}
+use native.Mathlib.Omega.{arith}
 use mathlib.Core.Bool.{Bool, true, false, cond, _&&_, and-false}
 use mathlib.Core.List.{[], _∷_}
 use mathlib.Core.Option.{some}
@@ -9,7 +10,9 @@ use mathlib.Core.Path.{_≡_, refl, sym, ap}
 use lib.Dec.{eqb}
 use lib.ListN.{length, getD, drop, drop-of-length-le, List·getD-eq-default}
 use lib.Seq.{getD-drop, drop-cons}
+use borrow.Author.Tests.{ne-eqb}
 use Rattle.sieve.specs.Bytes.{Bytes, same, firstSuch}
+use Rattle.sieve.specs.Lines.{ofBreak}
 
 -- the byte at the place, and what is left after it
 pub next : (s : Bytes) (i : ℕ) → i < length s → drop i s ≡ getD s i 0 ∷ drop (i + 1) s
@@ -33,6 +36,10 @@ module _ (f : ℕ → Bool) (s : Bytes) (i : ℕ) (h : i < length s) where
   pub such-later : f (getD s i 0) ≡ false → firstSuch f i (drop i s) ≡ firstSuch f (i + 1) (drop (i + 1) s)
   unfolding firstSuch
   such-later e = rw (next s i h, e, firstSuch) (ap (λ (n : ℕ). firstSuch f n (drop (i + 1) s)) (sym (add-one i)))
+
+-- a byte above CR is neither CR nor LF
+pub above-breaks : (x : ℕ) → 13 < x → ofBreak x ≡ false
+above-breaks x h = rw (ne-eqb x 10 (λ e. omega arith), ne-eqb x 13 (λ e. omega arith))
 
 -- two runs of bytes are the same where the next bytes are, and those after them; runs of other lengths never are
 module _ (a b : Bytes) (i : ℕ) where

@@ -253,14 +253,16 @@ pub enum Stray {
     At(usize),
 }
 
-// The first byte of a line that is CR or LF.
+// The first byte of a line that is CR or LF. Nearly all bytes are above both, and are passed by one test.
 pub fn stray_break(s: &[u8]) -> Stray
     ensures { λ r. ⌜ r ≡ strayAs (firstSuch ofBreak 0 (now (s .entry))) ⌝ }
 {
     let mut i = 0;
     while i < s.len() {
-        if of_break(s[i]) {
-            return Stray::At(i);
+        if s[i] <= 13 {
+            if of_break(s[i]) {
+                return Stray::At(i);
+            }
         }
         i += 1;
     }

@@ -22,8 +22,8 @@ use Rattle.sieve.specs.Writing.{outside, spans, handed, strayBreak}
 use Rattle.text.specs.declared.Stray.the-variants.{Nowhere, At}
 use Rattle.text.specs.Results.{strayAs}
 use Rattle.sieve.specs.Lines.{ofBreak}
-use Rattle.text.specs.Laid.{withBreak, room, laid}
-use Rattle.text.proofs.Lays.{tail-room, tail-laid}
+use Rattle.text.specs.Laid.{withBreak}
+use Rattle.text.proofs.Lays.{lent, back}
 use Rattle.writer.specs.Handing.{spanAt, lineAt, breakIf, firstOutside, Inside}
 
 -- the places of the entries from i on, and the lines there
@@ -198,9 +198,12 @@ module _ (J d₀ d w rest : Bytes) (n : ℕ) (e : drop n J ≡ w ++ rest) (in-J 
   long : length (take (n + length w) J ++ drop (n + length w) d₀) ≡ length d₀
   long = omega (arith, bytes, length-append (take (n + length w) J) (drop (n + length w) d₀), length-take-le (n + length w) J (omega (arith, bytes)), length-drop (n + length w) d₀)
 
-  pub laid-behind : (r : ℕ) (t v : Bytes) → v ≡ w → r ≡ room (midOf n (length d - n) d) v → t ≡ laid (midOf n (length d - n) d) v
+  pub in-tail : (v : Bytes) → v ≡ w → length v ≤ length (midOf n (length d - n) d)
+  in-tail v same = rw (same, lent n d) (omega (arith, fits, length-drop n d))
+
+  pub laid-behind : (r : ℕ) (t v : Bytes) → v ≡ w → r ≡ length v → t ≡ v ++ drop (length v) (midOf n (length d - n) d)
       → (n + r ≤ length J) × (drop (n + r) J ≡ rest) × (putMid n (length d - n) d t ≡ take (n + r) J ++ drop (n + r) d₀) × (length (putMid n (length d - n) d t) ≡ length d₀)
   laid-behind r t v same r-is t-is =
-      let q : r ≡ length w = rw (r-is, same) (tail-room n d w fits) in
-      let whole : putMid n (length d - n) d t ≡ take (n + length w) J ++ drop (n + length w) d₀ = rw (t-is, same, tail-laid n d w fits) laid-on in
+      let q : r ≡ length w = rw (r-is, same) in
+      let whole : putMid n (length d - n) d t ≡ take (n + length w) J ++ drop (n + length w) d₀ = back n d t ∙ rw (t-is, same, lent n d, drop-drop (length w) n d) laid-on in
       rw q (omega (arith, bytes), left, whole, rw whole long)

@@ -1,4 +1,5 @@
 pub mod Handing
+pub mod Laying
 pub mod Writing
 pub mod Promise
 pub mod OneAnswer

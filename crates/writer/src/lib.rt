@@ -11,7 +11,6 @@ use sieve::Written;
 use text::After;
 use text::Stray;
 use text::break_length;
-use text::lay;
 use text::stray_break;
 ghost use mathlib.Core.List.{_++_};
 ghost use mathlib.Core.Path.{_≡_};
@@ -19,6 +18,7 @@ ghost use Prim.Native.Nat.{_+_, _*_, _≤_, _<_};
 ghost use lib.ListN.{length, drop, getD};
 ghost use Rattle.sieve.specs.Lines.{breakBytes, joined};
 ghost use Rattle.sieve.specs.Writing.{handed};
+ghost use Rattle.text.specs.Laid.{withBreak};
 ghost use Rattle.writer.specs.Handing.{lineAt, outsideAs, firstOutside, Inside, measured, breakIf};
 ghost use Rattle.writer.specs.Writing.{IsWritten, InText, Joined, Readable};
 
@@ -92,6 +92,34 @@ fn after_line(more: bool, k: Break) -> After
     }
 }
 
+// Copies a line, and the break after it where one is asked for, to the front of `dest`, and answers how many bytes those
+// are. Its caller knows that there is room for them, so that it is not asked again for each line.
+fn lay_line(dest: &mut [u8], line: &[u8], after: After) -> usize
+    requires { ⌜ length (withBreak (now line) after) ≤ length (now dest) ⌝ }
+    ensures { λ r. ⌜ r ≡ length (withBreak (now (line .entry)) after) ⌝ }
+    ensures { λ _. ⌜ now (dest .exit) ≡ withBreak (now (line .entry)) after ++ drop (length (withBreak (now (line .entry)) after)) (now (dest .entry)) ⌝ }
+{
+    let mut i = 0;
+    while i < line.len() {
+        dest[i] = line[i];
+        i += 1;
+    }
+    match after {
+        After::Nothing => i,
+        After::ABreak(k) => match k {
+            Break::Lf => {
+                dest[i] = 10;
+                i + 1
+            }
+            Break::CrLf => {
+                dest[i] = 13;
+                dest[i + 1] = 10;
+                i + 2
+            }
+        },
+    }
+}
+
 // Lays line after line, each with the break after it but the last, into the part of the destination after what is
 // already written.
 fn lay_lines(dest: &mut [u8], text: &[u8], list: &[u16], count: usize, k: Break)
@@ -104,7 +132,7 @@ fn lay_lines(dest: &mut [u8], text: &[u8], list: &[u16], count: usize, k: Break)
     while i < count {
         let line = handed_line(text, list, i);
         i += 1;
-        n += lay(&mut dest[n..], line, after_line(i < count, k));
+        n += lay_line(&mut dest[n..], line, after_line(i < count, k));
     }
 }
 

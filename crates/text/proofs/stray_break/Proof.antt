@@ -1,12 +1,14 @@
 -- `text::stray_break` meets its contract. The invariant: the bytes that are left decide. Assumes nothing.
 use Prim.Native.Nat.{_-_}
+use mathlib.Core.Bool.{false}
+use mathlib.Core.Logic.{⊎-elim}
 use mathlib.Core.Path.{_≡_, refl, sym, ap, _∙_}
 use borrow.Author.Needs.{needs}
-use lib.ListN.{length, drop, drop-of-length-le}
+use lib.ListN.{length, getD, drop, drop-of-length-le}
 use Rattle.sieve.specs.Bytes.{firstSuch}
 use Rattle.text.specs.Results.{strayAs}
 use Rattle.sieve.specs.Lines.{ofBreak}
-use Rattle.text.proofs.ByteByByte.{such-here, such-later}
+use Rattle.text.proofs.ByteByByte.{such-here, such-later, above-breaks}
 use Rattle.text.proofs.stray_break.Statement.{statement}
 use Rattle.text.proofs.stray_break.Tie as tie
 
@@ -19,6 +21,9 @@ abbrev μ-loop : tie.MeasureT-loop
 loop-holds : tie.Need-loop-holds Inv-loop μ-loop
 loop-holds c = refl
 
+shared-slice-read-if1 : tie.Need-shared-slice-read-if1 Inv-loop μ-loop
+shared-slice-read-if1 c = search needs
+
 shared-slice-read-of-break : tie.Need-shared-slice-read-of-break Inv-loop μ-loop
 shared-slice-read-of-break c = search needs
 
@@ -27,8 +32,8 @@ of-break-requires c κs = search needs
 
 returns : tie.Need-returns Inv-loop μ-loop
 returns c =
-    let l = c .before .before .before .before in
-    sym (ap strayAs (l .loop .inv ∙ such-here ofBreak (l .before .before .args .s .now) (l .loop .i) (c .before .before .before .loop-test .taken) (sym (c .before .of-break .ensures) ∙ c .if1 .taken)))
+    let l = c .before .before .before .before .before .before in
+    sym (ap strayAs (l .loop .inv ∙ such-here ofBreak (l .before .before .args .s .now) (l .loop .i) (c .before .before .before .before .before .loop-test .taken) (sym (c .before .of-break .ensures) ∙ c .if2 .taken)))
 
 add-i : tie.Need-add-i Inv-loop μ-loop
 add-i c = search needs
@@ -38,8 +43,10 @@ loop-less c = search needs
 
 loop-again : tie.Need-loop-again Inv-loop μ-loop
 loop-again c =
-    let l = c .before .before .before .before in
-    l .loop .inv ∙ such-later ofBreak (l .before .before .args .s .now) (l .loop .i) (c .before .before .before .loop-test .taken) (sym (c .before .of-break .ensures) ∙ c .if1 .left)
+    let l = c .before .before .before in
+    let s = l .before .before .args .s .now in
+    let none : ofBreak (getD s (l .loop .i) 0) ≡ false = ⊎-elim (λ w. sym (w .2 .ensures) ∙ w .3 .left) (λ w. above-breaks _ (w .left)) (c .if1 .came) in
+    l .loop .inv ∙ such-later ofBreak s (l .loop .i) (c .before .before .loop-test .taken) none
 
 returns-2 : tie.Need-returns-2 Inv-loop μ-loop
 unfolding firstSuch
@@ -52,6 +59,7 @@ stray-break-spec =
     Inv-loop
     μ-loop
     loop-holds
+    shared-slice-read-if1
     shared-slice-read-of-break
     of-break-requires
     returns

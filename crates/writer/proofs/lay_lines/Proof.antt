@@ -4,7 +4,7 @@ use borrow.Rule.Slice.PartMut.{putMid}
 use Rattle.writer.specs.Handing.{lineAt, breakIf}
 use Rattle.text.specs.Laid.{withBreak}
 use lib.Dec.{ltb}
-use Rattle.writer.proofs.Handing.{still, from-start, no-line, joined-next, laid-behind}
+use Rattle.writer.proofs.Handing.{still, from-start, no-line, joined-next, in-tail, laid-behind}
 use Rattle.sieve.specs.Writing.{handed}
 use Rattle.sieve.specs.Lines.{joined}
 use lib.ListN.{length, take, drop, length-drop}
@@ -35,33 +35,49 @@ handed-line-requires c κs = (omega (arith, c .before .before .before .before .b
 add-i : tie.Need-add-i Inv-loop μ-loop
 add-i c = omega (arith, c .before .before .before .before .before .before .pre .0 .there)
 
-sub-lay : tie.Need-sub-lay Inv-loop μ-loop
-sub-lay c = omega (arith, c .before .before .loop .inv .1, c .before .before .loop .inv .4, c .before .before .before .before .before .before .pre .1)
+sub-lay-line : tie.Need-sub-lay-line Inv-loop μ-loop
+sub-lay-line c = omega (arith, c .before .before .loop .inv .1, c .before .before .loop .inv .4, c .before .before .before .before .before .before .pre .1)
 
-part-lay-start : tie.Need-part-lay-start Inv-loop μ-loop
-part-lay-start c = omega (arith, c .before .before .loop .inv .1, c .before .before .loop .inv .4, c .before .before .before .before .before .before .pre .1)
+part-lay-line-start : tie.Need-part-lay-line-start Inv-loop μ-loop
+part-lay-line-start c = omega (arith, c .before .before .loop .inv .1, c .before .before .loop .inv .4, c .before .before .before .before .before .before .pre .1)
 
-part-lay-end : tie.Need-part-lay-end Inv-loop μ-loop
-part-lay-end c = search needs
+part-lay-line-end : tie.Need-part-lay-line-end Inv-loop μ-loop
+part-lay-line-end c = search needs
 
 after-line-requires : tie.Need-after-line-requires Inv-loop μ-loop
 after-line-requires c κs = search needs
 
-lay-requires : tie.Need-lay-requires Inv-loop μ-loop
-lay-requires c κs = search needs
+-- what is laid next: a line, with what comes after it
+next-laid : (c : tie.After-after-line Inv-loop μ-loop)
+    → let l = c .before .before .before .before in let a = l .before .before .before .before .args in
+    withBreak (c .before .before .handed-line .result .now) (c .after-line .result) ≡ withBreak (lineAt (a .text .now) (a .list .now) (l .loop .i)) (breakIf (ltb (l .loop .i + 1) (a .count)) (a .k))
+next-laid c = rw (c .before .before .handed-line .ensures, c .after-line .ensures)
+
+-- and it comes next of the joined bytes
+comes-next : (c : tie.In-loop Inv-loop μ-loop)
+    → let l = c .before in let a = l .before .before .before .before .args in
+    drop (l .loop .n) (joined (a .k) (handed (a .text .now) (a .list .now) (a .count))) ≡ withBreak (lineAt (a .text .now) (a .list .now) (l .loop .i)) (breakIf (ltb (l .loop .i + 1) (a .count)) (a .k)) ++ joined (a .k) (still (a .text .now) (a .list .now) (a .count) (l .loop .i + 1))
+comes-next c =
+    let l = c .before in
+    let a = l .before .before .before .before .args in
+    l .loop .inv .2 ∙ joined-next (a .text .now) (a .list .now) (a .count) (a .k) (l .loop .i) (c .loop-test .taken)
+
+lay-line-requires : tie.Need-lay-line-requires Inv-loop μ-loop
+lay-line-requires c κs =
+    let l = c .before .before .before .before in
+    in-tail _ (l .before .before .before .before .args .dest .now) (l .loop .dest) _ _ (l .loop .n) (comes-next (c .before .before .before)) (l .loop .inv .1) (l .before .before .before .before .pre .1) (l .loop .inv .4) (l .loop .inv .3)
+    _ (next-laid c)
 
 -- a line is laid, with what comes after it, behind those before it
 line-laid : (c : tie.After-slice-known2 Inv-loop μ-loop)
-    → let y = c .before .before .lay in let l = c .before .before .before .before .before .before .before in let a = l .before .before .before .before .args in let d = l .loop .dest in let J = joined (a .k) (handed (a .text .now) (a .list .now) (a .count)) in let n = l .loop .n + y .result in let d₁ = putMid (l .loop .n) (length d - l .loop .n) d (y .last .0) in
+    → let y = c .before .before .lay-line in let l = c .before .before .before .before .before .before .before in let a = l .before .before .before .before .args in let d = l .loop .dest in let J = joined (a .k) (handed (a .text .now) (a .list .now) (a .count)) in let n = l .loop .n + y .result in let d₁ = putMid (l .loop .n) (length d - l .loop .n) d (y .last .0) in
     (n ≤ length J) × (drop n J ≡ joined (a .k) (still (a .text .now) (a .list .now) (a .count) (l .loop .i + 1))) × (d₁ ≡ take n J ++ drop n (a .dest .now)) × (length d₁ ≡ length (a .dest .now))
 line-laid c =
-    let y = c .before .before .lay in
+    let y = c .before .before .lay-line in
     let l = c .before .before .before .before .before .before .before in
     let a = l .before .before .before .before .args in
-    let next = joined-next (a .text .now) (a .list .now) (a .count) (a .k) (l .loop .i) (c .before .before .before .before .before .before .loop-test .taken) in
-    let same : withBreak (c .before .before .before .before .before .handed-line .result .now) (c .before .before .before .after-line .result) ≡ withBreak (lineAt (a .text .now) (a .list .now) (l .loop .i)) (breakIf (ltb (l .loop .i + 1) (a .count)) (a .k)) = rw (c .before .before .before .before .before .handed-line .ensures, c .before .before .before .after-line .ensures) in
-    laid-behind _ (a .dest .now) (l .loop .dest) _ _ (l .loop .n) (l .loop .inv .2 ∙ next) (l .loop .inv .1) (l .before .before .before .before .pre .1) (l .loop .inv .4) (l .loop .inv .3)
-    (y .result) (y .last .0) _ same (y .ensures .0) (y .ensures .1)
+    laid-behind _ (a .dest .now) (l .loop .dest) _ _ (l .loop .n) (comes-next (c .before .before .before .before .before .before)) (l .loop .inv .1) (l .before .before .before .before .pre .1) (l .loop .inv .4) (l .loop .inv .3)
+    (y .result) (y .last .0) _ (next-laid (c .before .before .before)) (y .ensures .0) (y .ensures .1)
 
 add-n : tie.Need-add-n Inv-loop μ-loop
 add-n c = omega (arith, line-laid c .0, c .before .before .before .before .before .before .before .before .before .before .before .pre .1)
@@ -93,11 +109,11 @@ lay-lines-spec =
     loop-holds
     handed-line-requires
     add-i
-    sub-lay
-    part-lay-start
-    part-lay-end
+    sub-lay-line
+    part-lay-line-start
+    part-lay-line-end
     after-line-requires
-    lay-requires
+    lay-line-requires
     add-n
     loop-less
     loop-again
