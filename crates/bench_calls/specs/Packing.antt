@@ -1,5 +1,5 @@
 -- The answers of the reader and the writer as one number, and what lent memory then holds. Assumes nothing.
-use Prim.Native.Nat.{ℕ, _+_, _*_}
+use Prim.Native.Nat.{ℕ, _+_}
 use mathlib.Core.Bool.{Bool, true, false}
 use mathlib.Core.List.{List}
 use mathlib.Core.Path.{_≡_}
@@ -11,10 +11,11 @@ use Rattle.sieve.specs.Reading.{readAnswer}
 use Rattle.sieve.specs.Verdict.{Refusal, Verdict, accepted, refused}
 use Rattle.sieve.specs.Writing.{writeAnswer}
 use Rattle.swiss.specs.Swiss.{swiss}
+use Rattle.capi.specs.Packing.{packed}
 
--- 1000 times the number plus the line
+-- a refusal as the calls for C have it
 abbrev pub packedRefusal : Refusal → ℕ
-packedRefusal r = 1000 * r .number + r .line
+packedRefusal r = packed (refused r)
 
 -- the kind of break beside a line count
 abbrev pub mark : Break → ℕ

@@ -1,4 +1,5 @@
 // Calls that bench/ counts: the reader with a list and the writer, for C, each answer as one number.
+use capi::SHIFT;
 use reader::read;
 use sieve::Answer;
 use sieve::Break;
@@ -11,9 +12,6 @@ ghost use mathlib.Core.Path.{_≡_};
 ghost use Prim.Native.Nat.{_<_};
 ghost use Rattle.sieve.specs.Paper.{paperFault};
 ghost use Rattle.bench_calls.specs.Packing.{packedRefusal, mark, breakFor, IsSieveRead, IsSieveWritten};
-
-// What the number of a refusal is multiplied by.
-const SHIFT: u32 = 1000;
 
 // 1000 times the refusal plus the line.
 fn packed_fault(fault: Fault) -> u32

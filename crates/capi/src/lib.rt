@@ -12,7 +12,7 @@ ghost use Rattle.swiss.specs.Swiss.{swiss};
 ghost use Rattle.capi.specs.Packing.{packed, packedPlace, packedLine};
 
 // What the number of a refusal, or the start of a line, is multiplied by.
-const SHIFT: u32 = 1000;
+pub const SHIFT: u32 = 1000;
 
 // The line count of an accepted payload; of a refused one 1000 times the refusal plus the line.
 #[no_mangle]

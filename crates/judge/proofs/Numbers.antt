@@ -1,7 +1,7 @@
 -- What a verdict names is small: a refusal's line is below 1000, its number at most 15, and a bill has 31 to 34 lines. Assumes nothing.
 use Prim.Native.Nat.{ℕ, _+_, _≤_, _<_}
 use native.Mathlib.Omega.{arith}
-use mathlib.Core.Bool.{Bool, true, false, _&&_, not}
+use mathlib.Core.Bool.{Bool, true, false, _&&_, not, and-eq-true-iff}
 use mathlib.Core.List.{List, [], _∷_, _++_, map}
 use mathlib.Core.Option.{Option, some, none, Option·map, Option·none-ne-some}
 use mathlib.Core.Path.{_≡_, refl, sym, ap, _∙_}
@@ -48,15 +48,11 @@ swiss-low : lowRules rules ≡ true
 unfolding rules lowRules mathlib.Core.List.flatten
 swiss-low = refl
 
-and-true : (a b : Bool) → a && b ≡ true → (a ≡ true) × (b ≡ true)
-and-true true b h = (refl, h)
-and-true false b h = let z : false ≡ true = h in (z, cc)
-
 rules-low : (ls : List Bytes) (rs : List Rule) → lowRules rs ≡ true → Low (first (map (aboutLines ls) rs))
 unfolding lowRules first
 rules-low ls [] h = λ r e. absurd (Option·none-ne-some r e)
 rules-low ls (q ∷ rs) h =
-    let (a, b) = and-true _ _ h in
+    let (a, b) = and-eq-true-iff _ _ .0 h in
     low-first (aboutLines ls q) (map (aboutLines ls) rs) (low-found (q .broken ls) (under (q .number) (q .line)) (ltb-true _ _ a)) (rules-low ls rs b)
 
 -- a payload has no more breaks than bytes
