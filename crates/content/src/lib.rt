@@ -1,11 +1,11 @@
 // What a line holds: its form and its rules. Each kind of content is judged by one function: what was found before, then the
 // line's rules by number.
 mod forms;
-pub mod limits;
 
 use digits::checks10;
 use digits::checks97;
 use sieve::Fault;
+use swiss::limits;
 use text::longer;
 use text::same;
 ghost use mathlib.Core.Bool.{true, cond, _||_, not};

@@ -1,15 +1,15 @@
 // The rules of a bill, group by group of lines, each after what was found before. Once a rule is broken, later groups are passed over.
 use crate::places::line;
 use content::Finding;
-use content::limits;
-use content::limits::HOUSE_NUMBER_MOST;
-use content::limits::NAME_MOST;
-use content::limits::POSTCODE_MOST;
-use content::limits::STREET_MOST;
-use content::limits::TOWN_MOST;
 use content::rule;
 use digits::number;
 use sieve::Fault;
+use swiss::limits;
+use swiss::limits::HOUSE_NUMBER_MOST;
+use swiss::limits::NAME_MOST;
+use swiss::limits::POSTCODE_MOST;
+use swiss::limits::STREET_MOST;
+use swiss::limits::TOWN_MOST;
 use text::longer_together;
 use text::same;
 ghost use mathlib.Core.Bool.{cond, _&&_, not};

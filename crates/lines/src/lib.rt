@@ -1,5 +1,6 @@
 // The walk over a payload: its characters, its breaks, and where its lines lie.
 use sieve::Break;
+use swiss::limits::MOST_LINES;
 use text::break_width;
 use text::in_one;
 use text::width;
@@ -12,9 +13,6 @@ ghost use Rattle.sieve.specs.Characters.{badPlace};
 ghost use Rattle.swiss.specs.Latin.{latin};
 ghost use Rattle.lines.specs.Listed.{listed, listedOf, Filled};
 ghost use Rattle.lines.specs.Walking.{greatest, ofWidth, partedBy, noted, heldBy, IsCame, IsTold};
-
-// The most lines that are listed: as many as a bill may have.
-const LISTED: usize = 34;
 
 // The greatest number of 16 bits.
 const GREATEST: usize = 65535;
@@ -85,7 +83,7 @@ fn note(places: &mut [u16], n: usize, start: usize, bytes: usize)
     requires { ⌜ length (now places) ≡ 68 ⌝ }
     ensures { λ _. ⌜ now (places .exit) ≡ noted (now (places .entry)) n start bytes ⌝ }
 {
-    if (n < LISTED) & (start <= GREATEST) & (bytes <= GREATEST) {
+    if (n < MOST_LINES) & (start <= GREATEST) & (bytes <= GREATEST) {
         places[2 * n] = start as u16;
         places[2 * n + 1] = bytes as u16;
     }
@@ -162,7 +160,7 @@ fn list_absent(s: &[u8], noted: [u16; 68], n: usize) -> [u16; 68]
     let mut places = noted;
     let end = s.len();
     let mut i = n;
-    while i < LISTED {
+    while i < MOST_LINES {
         places[2 * i] = end as u16;
         places[2 * i + 1] = 0;
         i += 1;

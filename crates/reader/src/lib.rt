@@ -1,8 +1,8 @@
 // Reads a payload: the verdict, then room, then the places of its lines.
-use content::limits::LIST_SIZE;
 use judge::judge;
 use sieve::Answer;
 use sieve::Fault;
+use swiss::limits::LIST_SIZE;
 ghost use mathlib.Core.List.{_++_};
 ghost use mathlib.Core.Path.{_≡_};
 ghost use Prim.Native.Nat.{_≤_};

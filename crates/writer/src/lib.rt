@@ -1,13 +1,13 @@
 // Writes a bill: its lines, found in a text by a list of places, joined by a break.
-use content::limits::FEWEST_LINES;
-use content::limits::LIST_SIZE;
-use content::limits::MOST_BYTES;
-use content::limits::MOST_LINES;
 use judge::judge;
 use sieve::Answer;
 use sieve::Break;
 use sieve::Fault;
 use sieve::Written;
+use swiss::limits::FEWEST_LINES;
+use swiss::limits::LIST_SIZE;
+use swiss::limits::MOST_BYTES;
+use swiss::limits::MOST_LINES;
 use text::After;
 use text::Stray;
 use text::break_length;
