@@ -1,4 +1,3 @@
-pub mod Listed
 pub mod Stages
 pub mod Numbers
 pub mod OneAnswer

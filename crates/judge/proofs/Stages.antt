@@ -28,7 +28,7 @@ use Rattle.lines.specs.Walking.{walked, parted, breaksIn}
 use Rattle.judge.specs.declared.Judged.{Judged}
 use Rattle.judge.specs.Stages.{judgedPlaces, IsJudged, Reached, Characters, OneKind}
 use Rattle.lines.specs.Listed.{listed}
-use Rattle.content.proofs.Firsts.{first-none, first-some}
+use Rattle.findings.proofs.Firsts.{first-none, first-some}
 
 -- a finding that is none is passed, and one that is not settles the verdict
 pub passed : (p : Bytes) {o : Option Refusal} (os : List (Option Refusal)) → Reached p (o ∷ os) → o ≡ none → Reached p os

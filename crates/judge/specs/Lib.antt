@@ -1,2 +1,1 @@
-pub mod Groups
 pub mod Stages

@@ -1,12 +1,10 @@
 // The verdict on a payload, in code.
-mod groups;
-mod places;
-
-use content::Finding;
+use findings::Finding;
 use lines::Parted;
 use lines::Told;
 use lines::Walked;
 use lines::walk;
+use rules::rules;
 use sieve::Answer;
 use sieve::Break;
 use sieve::Fault;
@@ -39,7 +37,7 @@ fn judge_lines(payload: &[u8], k: Break, count: usize, places: [u16; 68]) -> Jud
     requires { ⌜ OneKind (now payload) k count × (places ≡ listed (now payload)) ⌝ }
     ensures { λ r. ⌜ IsJudged (now (payload .entry)) r ⌝ }
 {
-    match groups::rules(payload, &places, count) {
+    match rules(payload, &places, count) {
         Finding::Broken(f) => refused(f),
         Finding::Kept => Judged {
             answer: Answer::Accepted(count, k),

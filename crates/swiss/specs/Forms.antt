@@ -5,12 +5,18 @@ use lib.Dec.{eqb, leb}
 use lib.ListN.{getD, take, drop, length}
 use Rattle.sieve.specs.Bytes.{Bytes, ascii, within, same, every}
 use Rattle.swiss.specs.Letters.{digit, capital, digitOrCapital, alphanumeric}
+use Rattle.swiss.specs.Limits.{firstQrIid, lastQrIid}
+use Rattle.swiss.specs.Mod97.{number}
 
 -- CH or LI, two digits, five digits (the IID), twelve of 0-9 A-Z
 abbrev pub iban : Bytes → Bool
 iban s =
     eqb (length s) 21 && (same (take 2 s) (ascii "CH") || same (take 2 s) (ascii "LI")) && every digit (take 7 (drop 2 s))
     && every digitOrCapital (take 12 (drop 9 s))
+
+-- an IBAN whose IID makes it a QR-IBAN
+abbrev pub qrIban : Bytes → Bool
+qrIban s = within firstQrIid lastQrIid (number 0 (take 5 (drop 4 s)))
 
 -- two letters A-Z
 abbrev pub country : Bytes → Bool

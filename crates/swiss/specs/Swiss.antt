@@ -3,16 +3,15 @@ use Prim.Native.Nat.{ℕ, _+_}
 use mathlib.Core.Bool.{Bool, cond, true, _&&_, _||_, not}
 use mathlib.Core.List.{List, [], _∷_, flatten}
 use lib.Dec.{ltb}
-use lib.ListN.{take, drop}
-use Rattle.sieve.specs.Bytes.{Bytes, within}
+use Rattle.sieve.specs.Bytes.{Bytes}
 use Rattle.sieve.specs.Characters.{characters}
 use Rattle.sieve.specs.Rules.{Rule, Layout, When, line, isEmpty, is, has, isLast, always, never, unless}
 use Rattle.swiss.specs.Latin.{latin}
-use Rattle.swiss.specs.Mod97.{number, checks97}
+use Rattle.swiss.specs.Mod97.{checks97}
 use Rattle.swiss.specs.Mod10.{checks10}
-use Rattle.swiss.specs.Limits.{mostBytes, fewestLines, mostLines, nameMost, streetMost, houseNumberMost, postcodeMost, townMost, amountMost, messageMost, billingMost, togetherMost, procedureMost, firstQrIid, lastQrIid, qrType, version, coding, trailer, structured, francs, euros, qrReference, creditorReference, noReference}
+use Rattle.swiss.specs.Limits.{mostBytes, fewestLines, mostLines, nameMost, streetMost, houseNumberMost, postcodeMost, townMost, amountMost, messageMost, billingMost, togetherMost, procedureMost, qrType, version, coding, trailer, structured, francs, euros, qrReference, creditorReference, noReference}
 use Rattle.swiss.specs.Kinds.{fixed, empty, filled, atMost, formed, checked}
-use Rattle.swiss.specs.Forms.{iban, country, amount, billing, qrr, scor}
+use Rattle.swiss.specs.Forms.{iban, qrIban, country, amount, billing, qrr, scor}
 
 -- lines 1 to 3
 abbrev pub header : List Rule
@@ -67,13 +66,9 @@ information =
     ∷ filled 34 (isLast 34) ∷ atMost procedureMost 34
     ∷ []
 
--- the IBAN's IID makes it a QR-IBAN
-abbrev pub qrIban : When
-qrIban ls = within firstQrIid lastQrIid (number 0 (take 5 (drop 4 (line 4 ls))))
-
 -- QRR stands exactly with a QR-IBAN, and only with CHF
 abbrev pub paired : When
-paired ls = cond (is 28 qrReference ls) (qrIban ls && is 20 francs ls) (not (qrIban ls))
+paired ls = cond (is 28 qrReference ls) (has 4 qrIban ls && is 20 francs ls) (not (has 4 qrIban ls))
 
 abbrev pub pairing : Rule
 pairing = record { number = 12; line = 28; broken = unless paired }

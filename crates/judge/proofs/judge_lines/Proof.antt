@@ -1,6 +1,6 @@
 -- `judge::judge_lines` meets its contract: the rules about lines, group after group, are the whole list of rules. Assumes nothing.
 use Rattle.judge.specs.Stages.{judgedPlaces}
-use Rattle.content.specs.Findings.{finding}
+use Rattle.findings.specs.Findings.{finding}
 use Rattle.judge.proofs.Stages.{refused-judged, lines-broken, lines-kept, listed-places}
 use mathlib.Core.Path.{sym, ap, _∙_}
 use borrow.Author.Needs.{needs}

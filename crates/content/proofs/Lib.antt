@@ -1,3 +1,0 @@
-pub mod Firsts
-pub mod Parts
-pub mod OneAnswer

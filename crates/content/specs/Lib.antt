@@ -1,2 +1,0 @@
-pub mod Findings
-pub mod Content

@@ -1,0 +1,2 @@
+mod Listed
+pub mod OneAnswer
