@@ -1,7 +1,7 @@
 // The forms that lines take.
-use text::Kind;
-use text::every;
-use text::same;
+use runs::Kind;
+use runs::every;
+use runs::same;
 ghost use mathlib.Core.Path.{_≡_};
 ghost use Rattle.swiss.specs.Forms.{iban, country, amount, billing, qrr, scor};
 

@@ -4,10 +4,10 @@ mod forms;
 
 use digits::checks10;
 use digits::checks97;
+use runs::longer;
+use runs::same;
 use sieve::Fault;
 use swiss::limits;
-use text::longer;
-use text::same;
 ghost use mathlib.Core.Bool.{true, cond, _||_, not};
 ghost use mathlib.Core.List.{[], _∷_};
 ghost use mathlib.Core.Path.{_≡_};
