@@ -1,8 +1,8 @@
 // What a rule about a line finds. One function for each kind of rule: what was found before, else this rule's fault, if
 // the line breaks it.
+use runs::longer;
+use runs::same;
 use sieve::Fault;
-use text::longer;
-use text::same;
 ghost use mathlib.Core.Bool.{_&&_, not};
 ghost use mathlib.Core.Path.{_≡_};
 ghost use lib.Dec.{ltb};

@@ -1,9 +1,9 @@
 // The forms that lines take.
 use digits::number;
+use runs::Kind;
+use runs::every;
+use runs::same;
 use swiss::limits;
-use text::Kind;
-use text::every;
-use text::same;
 ghost use mathlib.Core.Path.{_≡_};
 ghost use lib.ListN.{take, drop};
 ghost use Rattle.swiss.specs.Forms.{iban, qrIban, country, amount, billing, qrr, scor};

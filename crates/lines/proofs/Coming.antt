@@ -18,10 +18,10 @@ use Rattle.sieve.specs.Lawful.{Plain, no-more, one-more}
 use Rattle.sieve.specs.Places.{entries}
 use Rattle.swiss.specs.Latin.{inOne, latin}
 use Rattle.swiss.proofs.Latin.{lawful}
+use Rattle.runs.proofs.ByteByByte.{next}
 use Rattle.text.specs.declared.LineAt.{LineAt}
 use Rattle.text.specs.Results.{IsLineAt}
 use Rattle.text.specs.LinesIn.{linesIn}
-use Rattle.text.proofs.ByteByByte.{next}
 use Rattle.text.proofs.FirstLine.{stops, ends}
 use Rattle.text.proofs.LinesAt.{within}
 use Rattle.lines.specs.declared.Kinds.{Kinds}

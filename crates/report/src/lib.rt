@@ -1,12 +1,11 @@
 // The line that the program writes of a payload: what the reader answers.
 use judge::judge;
+use runs::lay;
 use sieve::Answer;
 use sieve::Break;
 use sieve::Fault;
 use sieve::line_of;
 use sieve::number_of;
-use text::After;
-use text::lay;
 ghost use mathlib.Core.List.{_++_};
 ghost use mathlib.Core.Path.{_≡_};
 ghost use Prim.Native.Nat.{_+_, _≤_, _<_};
@@ -14,7 +13,7 @@ ghost use lib.ListN.{length, take};
 ghost use Rattle.sieve.specs.Paper.{paper, paperFault};
 ghost use Rattle.sieve.specs.Verdict.{accepted, refused, verdict};
 ghost use Rattle.swiss.specs.Swiss.{swiss};
-ghost use Rattle.text.specs.Laid.{room, laid};
+ghost use Rattle.runs.specs.Laid.{room, laid};
 ghost use Rattle.report.specs.Spoken.{digitByte, decimal, spoken, Short};
 
 // Lays a text behind the first `at` bytes of a line, and answers where it ends.
@@ -23,7 +22,7 @@ fn add(line: &mut [u8], at: usize, text: &[u8]) -> usize
     ensures { λ r. ⌜ r ≡ at + length (now (text .entry)) ⌝ }
     ensures { λ r. ⌜ take r (now (line .exit)) ≡ take at (now (line .entry)) ++ now (text .entry) ⌝ }
 {
-    at + lay(&mut line[at..], text, After::Nothing)
+    at + lay(&mut line[at..], text)
 }
 
 fn digit(n: usize) -> u8
@@ -98,5 +97,5 @@ pub fn report(payload: &[u8], dest: &mut [u8]) -> usize
     let answer = judged.answer;
     let mut line = [0u8; 32];
     let n = compose(&mut line, answer);
-    lay(dest, &line[0..n], After::Nothing)
+    lay(dest, &line[0..n])
 }

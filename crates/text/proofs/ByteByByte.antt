@@ -1,31 +1,20 @@
--- What loops that go byte by byte lean on: what is left from a place on, the first byte that passes a test, and sameness. Assumes nothing.
-use Prim.Native.Nat.{ℕ, suc, _+_, _≤_, _<_}
+-- What loops that go byte by byte lean on: no byte past the end, and the first byte that passes a test. Assumes nothing.
+use Prim.Native.Nat.{ℕ, _+_, _≤_, _<_}
 use native.Mathlib.Numerals.{add-one}
 use native.Mathlib.Omega.{arith}
-use mathlib.Core.Bool.{Bool, true, false, cond, _&&_, and-false}
-use mathlib.Core.List.{[], _∷_}
+use mathlib.Core.Bool.{Bool, true, false}
 use mathlib.Core.Option.{some}
-use mathlib.Core.Logic.{_≢_}
-use mathlib.Core.Path.{_≡_, refl, sym, ap}
-use lib.Dec.{eqb}
-use lib.ListN.{length, getD, drop, drop-of-length-le, List·getD-eq-default}
-use lib.Seq.{getD-drop, drop-cons}
+use mathlib.Core.Path.{_≡_, sym, ap}
+use lib.ListN.{length, getD, drop, List·getD-eq-default}
+use lib.Seq.{getD-drop}
 use borrow.Author.Tests.{ne-eqb}
-use Rattle.sieve.specs.Bytes.{Bytes, same, firstSuch}
+use Rattle.sieve.specs.Bytes.{Bytes, firstSuch}
 use Rattle.sieve.specs.Lines.{ofBreak}
-
--- the byte at the place, and what is left after it
-pub next : (s : Bytes) (i : ℕ) → i < length s → drop i s ≡ getD s i 0 ∷ drop (i + 1) s
-next s i h = rw (add-one, drop-cons s i 0)
+use Rattle.runs.proofs.ByteByByte.{next}
 
 -- past the end there is no byte
 pub past : (s : Bytes) (at k : ℕ) → length s ≤ at + k → 0 ≡ getD (drop at s) k 0
 past s at k h = rw getD-drop (sym (List·getD-eq-default s 0 h))
-
--- one of two is within what both are within
-pub at-most : (n : ℕ) (b : Bool) (x y : ℕ) → x ≤ n → y ≤ n → cond b x y ≤ n
-at-most n true x y h k = h
-at-most n false x y h k = k
 
 -- the first byte that passes a test: it is the one at the place, or it is looked for after it
 module _ (f : ℕ → Bool) (s : Bytes) (i : ℕ) (h : i < length s) where
@@ -40,17 +29,3 @@ module _ (f : ℕ → Bool) (s : Bytes) (i : ℕ) (h : i < length s) where
 -- a byte above CR is neither CR nor LF
 pub above-breaks : (x : ℕ) → 13 < x → ofBreak x ≡ false
 above-breaks x h = rw (ne-eqb x 10 (λ e. omega arith), ne-eqb x 13 (λ e. omega arith))
-
--- two runs of bytes are the same where the next bytes are, and those after them; runs of other lengths never are
-module _ (a b : Bytes) (i : ℕ) where
-  pub same-next : i < length a → i < length b → same (drop i a) (drop i b) ≡ eqb (getD a i 0) (getD b i 0) && same (drop (i + 1) a) (drop (i + 1) b)
-  same-next h k = rw (next a i h, next b i k)
-
-  pub same-end : length a ≤ i → length b ≤ i → same (drop i a) (drop i b) ≡ true
-  same-end h k = rw (drop-of-length-le a h, drop-of-length-le b k)
-
-pub same-length : (a b : Bytes) → length a ≢ length b → same a b ≡ false
-same-length [] [] h = absurd (h refl)
-same-length [] (y ∷ b) h = refl
-same-length (x ∷ a) [] h = refl
-same-length (x ∷ a) (y ∷ b) h = rw (same-length a b (λ e. h (ap suc e))) (and-false (eqb x y))

@@ -15,7 +15,7 @@ use Rattle.sieve.specs.Lines.{breakBytes, cut}
 use Rattle.sieve.specs.Characters.{breakWidth}
 use Rattle.sieve.proofs.Heads.{Head, lf, crlf, other, head}
 use Rattle.sieve.specs.Lines.{ofBreak}
-use Rattle.text.proofs.ByteByByte.{next}
+use Rattle.runs.proofs.ByteByByte.{next}
 
 -- a line with nothing after it; or a line, a break, and the bytes after that
 pub data FirstLine : Bytes → Type 0 where

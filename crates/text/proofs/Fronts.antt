@@ -14,7 +14,7 @@ use Rattle.sieve.specs.Lawful.{Plain, no-more, one-more}
 use Rattle.sieve.proofs.Heads.{Head, lf, crlf, other, head}
 use Rattle.swiss.specs.Latin.{latin}
 use Rattle.swiss.proofs.Latin.{lawful}
-use Rattle.text.proofs.ByteByByte.{at-most}
+use Rattle.runs.proofs.ByteByByte.{at-most}
 
 pub feeds-append : (a b : Bytes) → lineFeeds (a ++ b) ≡ lineFeeds a + lineFeeds b
 unfolding lineFeeds

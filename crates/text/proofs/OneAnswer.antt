@@ -1,5 +1,5 @@
 -- The contract of each public function leaves one answer. Assumes nothing.
-use mathlib.Core.Path.{refl, sym, ap, _∙_}
+use mathlib.Core.Path.{refl, sym, _∙_}
 use Rattle.sieve.specs.OneAnswer.{OneAnswer}
 use Rattle.text.proofs.LinesAt.{one-line}
 use Rattle.text.proofs.LinesLie.{one-place}
@@ -20,27 +20,8 @@ one-line-at κs a x y v w h k = (one-line _ _ x y h k, refl)
 pub one-line-place : OneAnswer fn.line_place.ended fn.line_place.Reads.Learnt
 one-line-place κs a x y v w h k = (one-place _ x y h k, refl)
 
-pub one-characters : OneAnswer fn.characters.ended fn.characters.Reads.Learnt
-one-characters κs a x y v w h k = (h ∙ sym k, refl)
-
-pub one-longer : OneAnswer fn.longer.ended fn.longer.Reads.Learnt
-one-longer κs a x y v w h k = (h ∙ sym k, refl)
-
-pub one-longer-together : OneAnswer fn.longer_together.ended fn.longer_together.Reads.Learnt
-one-longer-together κs a x y v w h k = (h ∙ sym k, refl)
-
-pub one-same : OneAnswer fn.same.ended fn.same.Reads.Learnt
-one-same κs a x y v w h k = (h ∙ sym k, refl)
-
-pub one-every : OneAnswer fn.every.ended fn.every.Reads.Learnt
-one-every κs a x y v w h k = (h ∙ sym k, refl)
-
 pub one-stray-break : OneAnswer fn.stray_break.ended fn.stray_break.Reads.Learnt
 one-stray-break κs a x y v w h k = (h ∙ sym k, refl)
 
 pub one-break-length : OneAnswer fn.break_length.ended fn.break_length.Reads.Learnt
 one-break-length κs a x y v w h k = (h ∙ sym k, refl)
-
--- the destination at exit too
-pub one-lay : OneAnswer fn.lay.ended fn.lay.Reads.Learnt
-one-lay κs a x y v w h k = (h .0 ∙ sym (k .0), ap (λ d. (d, w .1)) (h .1 ∙ sym (k .1)))

@@ -1,3 +1,2 @@
 pub mod LinesIn
 pub mod Results
-pub mod Laid

@@ -1,19 +1,14 @@
 -- What the functions' enums and structs mean. Assumes nothing.
 use Prim.Native.Nat.{ℕ, _+_}
-use mathlib.Core.Bool.{Bool}
 use mathlib.Core.Option.{Option, some, none}
 use mathlib.Core.Path.{_≡_}
-use lib.Dec.{eqb}
 use lib.ListN.{length, drop}
 use Rattle.sieve.specs.Bytes.{Bytes}
 use Rattle.sieve.specs.Lines.{cut}
 use Rattle.sieve.specs.Characters.{breakWidth}
 use Rattle.sieve.specs.Places.{Placed}
-use Rattle.swiss.specs.Letters.{digit, capital, digitOrCapital, alphanumeric}
 use Rattle.text.specs.declared.LineAt.{LineAt}
 use Rattle.text.specs.declared.Place.{Place}
-use Rattle.text.specs.declared.Kind.{Kind}
-use Rattle.text.specs.declared.Kind.the-variants.{Digit, Capital, DigitOrCapital, Alphanumeric, Zero}
 use Rattle.text.specs.declared.Stray.{Stray}
 use Rattle.text.specs.declared.Stray.the-variants.{Nowhere, At}
 
@@ -26,14 +21,6 @@ pub record IsLineAt (s : Bytes) (from : ℕ) (r : LineAt) : Type 0 where
 pub record IsPlaceOf (l : Placed) (r : Place) : Type 0 where
   pub start : r .start ≡ l .start
   pub length : r .length ≡ length (l .text)
-
--- which bytes a kind of character is
-abbrev pub ofKind : Kind → ℕ → Bool
-ofKind Digit = digit
-ofKind Capital = capital
-ofKind DigitOrCapital = digitOrCapital
-ofKind Alphanumeric = alphanumeric
-ofKind Zero = λ x. eqb x 48
 
 -- the place of the first byte found, if one is
 abbrev pub strayAs : Option ℕ → Stray

@@ -68,11 +68,11 @@ fn write_flag(b: bool) {
 // three bytes, they are more than 4, and more than 71.
 fn write_count(s: &[u8]) {
     let others = b"\xC3\xA9\xE2\x82\xAC";
-    write_next(text::characters(s));
-    write_flag(text::longer(s, 1));
-    write_flag(text::longer(s, 70));
-    write_flag(text::longer_together(s, others, 4));
-    write_flag(text::longer_together(others, s, 71));
+    write_next(runs::characters(s));
+    write_flag(runs::longer(s, 1));
+    write_flag(runs::longer(s, 70));
+    write_flag(runs::longer_together(s, others, 4));
+    write_flag(runs::longer_together(others, s, 71));
 }
 
 // One more than the place, or 0. A place is below the length, so that this does not wrap.

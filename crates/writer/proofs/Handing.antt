@@ -22,9 +22,8 @@ use Rattle.sieve.specs.Writing.{outside, spans, handed, strayBreak}
 use Rattle.text.specs.declared.Stray.the-variants.{Nowhere, At}
 use Rattle.text.specs.Results.{strayAs}
 use Rattle.sieve.specs.Lines.{ofBreak}
-use Rattle.text.specs.Laid.{withBreak}
-use Rattle.text.proofs.Lays.{lent, back}
-use Rattle.writer.specs.Handing.{spanAt, lineAt, breakIf, firstOutside, Inside}
+use Rattle.runs.proofs.Lays.{lent, back}
+use Rattle.writer.specs.Handing.{spanAt, lineAt, firstOutside, Inside, withBreak, breakIf}
 
 -- the places of the entries from i on, and the lines there
 spans-next : (list : List ℕ) (count i : ℕ) → i < count → spans (count - i) (drop (2 * i) list) ≡ spanAt list i ∷ spans (count - (i + 1)) (drop (2 * (i + 1)) list)

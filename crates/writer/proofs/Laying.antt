@@ -8,9 +8,9 @@ use lib.ListN.{length, take, drop, set, length-append}
 use lib.Seq.{take-length, drop-cons, set-append-seam}
 use Rattle.sieve.specs.Bytes.{Bytes}
 use Rattle.sieve.specs.Lines.{breakBytes}
-use Rattle.text.specs.declared.After.{After}
-use Rattle.text.specs.declared.After.the-variants.{Nothing, ABreak}
-use Rattle.text.specs.Laid.{withBreak}
+use Rattle.writer.specs.declared.After.{After}
+use Rattle.writer.specs.declared.After.the-variants.{Nothing, ABreak}
+use Rattle.writer.specs.Handing.{withBreak}
 
 -- a line is no longer than with what comes after it
 pub line-within : (l : Bytes) (after : After) → length l ≤ length (withBreak l after)

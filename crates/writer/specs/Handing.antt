@@ -1,21 +1,21 @@
 -- What the writer's parts answer: places outside the text, stray breaks, the joined length. Assumes nothing.
 use Prim.Native.Nat.{ℕ, _+_, _*_, _≤_, _<_}
 use mathlib.Core.Bool.{Bool, true, false}
-use mathlib.Core.List.{List}
+use mathlib.Core.List.{List, _++_}
 use mathlib.Core.Option.{Option, some, none, Option·getD}
 use lib.ListN.{length, getD}
 use Rattle.sieve.specs.declared.Break.{Break}
 use Rattle.sieve.specs.Bytes.{Bytes, firstSuch}
-use Rattle.sieve.specs.Lines.{joined}
+use Rattle.sieve.specs.Lines.{breakBytes, joined}
 use Rattle.sieve.specs.Verdict.{Refusal}
 use Rattle.sieve.specs.Places.{placed}
 use Rattle.sieve.specs.Writing.{Span, outside, spans, part, handed, strayBreak}
-use Rattle.text.specs.declared.After.{After}
-use Rattle.text.specs.declared.After.the-variants.{Nothing, ABreak}
 use Rattle.writer.specs.declared.Outside.{Outside}
 use Rattle.writer.specs.declared.Outside.the-variants.{Nowhere, At}
 use Rattle.writer.specs.declared.Measured.{Measured}
 use Rattle.writer.specs.declared.Measured.the-variants.{Stray, Length}
+use Rattle.writer.specs.declared.After.{After}
+use Rattle.writer.specs.declared.After.the-variants.{Nothing, ABreak}
 
 -- the place that entry i of a list gives, counted from 0, and the part of the text there
 abbrev pub spanAt : List ℕ → ℕ → Span
@@ -44,6 +44,11 @@ measuredAs (some r) n = Stray (r .line) (Option·getD (r .place) 0)
 
 unfoldable pub measured : Bytes → List ℕ → ℕ → Break → Measured
 measured text list count k = measuredAs (strayBreak 1 (placed 0 k (handed text list count))) (length (joined k (handed text list count)))
+
+-- a line, and the break after it where one is asked for
+abbrev pub withBreak : Bytes → After → Bytes
+withBreak l Nothing = l
+withBreak l (ABreak k) = l ++ breakBytes k
 
 -- what is laid after a line: a break, if another line follows
 abbrev pub breakIf : Bool → Break → After

@@ -8,7 +8,6 @@ use swiss::limits::FEWEST_LINES;
 use swiss::limits::LIST_SIZE;
 use swiss::limits::MOST_BYTES;
 use swiss::limits::MOST_LINES;
-use text::After;
 use text::Stray;
 use text::break_length;
 use text::stray_break;
@@ -16,10 +15,9 @@ ghost use mathlib.Core.List.{_++_};
 ghost use mathlib.Core.Path.{_≡_};
 ghost use Prim.Native.Nat.{_+_, _*_, _≤_, _<_};
 ghost use lib.ListN.{length, drop, getD};
-ghost use Rattle.sieve.specs.Lines.{breakBytes, joined};
+ghost use Rattle.sieve.specs.Lines.{joined};
 ghost use Rattle.sieve.specs.Writing.{handed};
-ghost use Rattle.text.specs.Laid.{withBreak};
-ghost use Rattle.writer.specs.Handing.{lineAt, outsideAs, firstOutside, Inside, measured, breakIf};
+ghost use Rattle.writer.specs.Handing.{lineAt, outsideAs, firstOutside, Inside, measured, withBreak, breakIf};
 ghost use Rattle.writer.specs.Writing.{IsWritten, InText, Joined, Readable};
 
 // The line that entry i of a list, counted from 0, gives of a text.
@@ -33,7 +31,7 @@ fn handed_line<'a, 'b>(text: &'a [u8], list: &'b [u16], i: usize) -> &'a [u8]
 }
 
 // The first line whose place lies outside the text, counted from 1.
-pub enum Outside {
+enum Outside {
     Nowhere,
     At(usize),
 }
@@ -55,7 +53,7 @@ fn first_outside(text: &[u8], list: &[u16], count: usize) -> Outside
 }
 
 // What the lines come to when they are joined.
-pub enum Measured {
+enum Measured {
     // a line that holds CR or LF, and that byte's place in the joined bytes
     Stray(usize, usize),
     // how many bytes
@@ -79,6 +77,12 @@ fn measure(text: &[u8], list: &[u16], count: usize, k: Break) -> Measured
         }
     }
     Measured::Length(at - break_length(k))
+}
+
+// What is laid after a line.
+enum After {
+    Nothing,
+    ABreak(Break),
 }
 
 // What is laid after a line: a break, if another line follows.

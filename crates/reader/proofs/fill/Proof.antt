@@ -6,7 +6,7 @@ use mathlib.Core.List.{_++_}
 use mathlib.Core.Path.{_≡_, refl, _∙_}
 use lib.ListN.{length, take, drop, length-set}
 use lib.Seq.{take-all}
-use Rattle.text.proofs.Lays.{store}
+use Rattle.runs.proofs.Lays.{store}
 use Rattle.reader.proofs.fill.Statement.{statement}
 use Rattle.reader.proofs.fill.Tie as tie
 

@@ -4,7 +4,7 @@ use native.Mathlib.Omega.{arith}
 use mathlib.Core.Path.{_≡_}
 use lib.ListN.{length, drop}
 use borrow.Author.Needs.{needs}
-use Rattle.text.proofs.Lays.{tail-room, tail-laid}
+use Rattle.runs.proofs.Lays.{tail-room, tail-laid}
 use Rattle.report.proofs.Adding.{front}
 use Rattle.report.proofs.add.Statement.{statement}
 use Rattle.report.proofs.add.Tie as tie

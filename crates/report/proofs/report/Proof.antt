@@ -10,7 +10,7 @@ use Rattle.sieve.specs.Bytes.{Bytes}
 use Rattle.sieve.specs.Paper.{paper, paperFault}
 use Rattle.sieve.specs.Verdict.{verdict}
 use Rattle.swiss.specs.Swiss.{swiss}
-use Rattle.text.proofs.Lays.{room-fits}
+use Rattle.runs.proofs.Lays.{room-fits}
 use Rattle.judge.proofs.Numbers.{low-line, low-number, line-count}
 use Rattle.report.specs.Spoken.{Short, spoken}
 use borrow.Author.Needs.{needs}

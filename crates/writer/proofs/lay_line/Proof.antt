@@ -8,8 +8,8 @@ use borrow.Author.Needs.{needs}
 use lib.ListN.{length, take, drop, length-set, length-append}
 use Rattle.sieve.specs.Lines.{breakBytes}
 use Rattle.sieve.specs.declared.Break.the-variants.{Lf, CrLf}
-use Rattle.text.specs.Laid.{withBreak}
-use Rattle.text.proofs.Lays.{store}
+use Rattle.runs.proofs.Lays.{store}
+use Rattle.writer.specs.Handing.{withBreak}
 use Rattle.writer.proofs.Laying.{line-within, Front, whole-line, byte-more, two-more}
 use Rattle.writer.proofs.lay_line.Statement.{statement}
 use Rattle.writer.proofs.lay_line.Tie as tie

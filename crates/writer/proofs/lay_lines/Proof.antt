@@ -1,8 +1,7 @@
 -- `writer::lay_lines` meets its contract: the front of the destination holds what is laid of the joined bytes, and the rest is still to come. Assumes nothing.
 use lib.Seq.{take-length}
 use borrow.Rule.Slice.PartMut.{putMid}
-use Rattle.writer.specs.Handing.{lineAt, breakIf}
-use Rattle.text.specs.Laid.{withBreak}
+use Rattle.writer.specs.Handing.{lineAt, withBreak, breakIf}
 use lib.Dec.{ltb}
 use Rattle.writer.proofs.Handing.{still, from-start, no-line, joined-next, in-tail, laid-behind}
 use Rattle.sieve.specs.Writing.{handed}

@@ -1,0 +1,4 @@
+pub mod ByteByByte
+pub mod Counts
+pub mod Lays
+pub mod OneAnswer

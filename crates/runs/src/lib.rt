@@ -1,0 +1,123 @@
+// Runs of bytes: counting, comparing and copying them.
+ghost use mathlib.Core.Path.{_≡_};
+ghost use mathlib.Core.Bool.{cond};
+ghost use Prim.Native.Nat.{_+_};
+ghost use lib.Dec.{ltb};
+ghost use Rattle.sieve.specs.Bytes.{within, same, every};
+ghost use Rattle.sieve.specs.Characters.{characters};
+ghost use Rattle.runs.specs.Kinds.{ofKind};
+ghost use Rattle.runs.specs.Laid.{room, laid};
+
+// How many characters a byte counts for: none where it is 80 to BF, which go on with a character that has begun.
+fn character_count(x: u8) -> usize
+    ensures { λ r. ⌜ r ≡ cond (within 0x80 0xBF x) 0 1 ⌝ }
+{
+    if (0x80 <= x) & (x <= 0xBF) { 0 } else { 1 }
+}
+
+// The characters of a line.
+pub fn characters(s: &[u8]) -> usize
+    ensures { λ r. ⌜ r ≡ characters (now (s .entry)) ⌝ }
+{
+    let mut n = 0;
+    let mut i = 0;
+    while i < s.len() {
+        n += character_count(s[i]);
+        i += 1;
+    }
+    n
+}
+
+// Whether a line has more than so many characters. It has no more characters than bytes, so they are counted only where
+// its bytes are more.
+pub fn longer(s: &[u8], most: usize) -> bool
+    ensures { λ r. ⌜ r ≡ ltb most (characters (now (s .entry))) ⌝ }
+{
+    if s.len() <= most {
+        return false;
+    }
+    most < characters(s)
+}
+
+// Whether two lines together have more than so many characters; these, too, are counted only where the bytes are more.
+pub fn longer_together(a: &[u8], b: &[u8], most: usize) -> bool
+    ensures { λ r. ⌜ r ≡ ltb most (characters (now (a .entry)) + characters (now (b .entry))) ⌝ }
+{
+    if a.len() + b.len() <= most {
+        return false;
+    }
+    most < characters(a) + characters(b)
+}
+
+// Whether two runs of bytes are the same.
+pub fn same(a: &[u8], b: &[u8]) -> bool
+    ensures { λ r. ⌜ r ≡ same (now (a .entry)) (now (b .entry)) ⌝ }
+{
+    if a.len() != b.len() {
+        return false;
+    }
+    let mut i = 0;
+    while i < a.len() {
+        if a[i] != b[i] {
+            return false;
+        }
+        i += 1;
+    }
+    true
+}
+
+// A kind of character, by its byte.
+pub enum Kind {
+    Digit,
+    Capital,
+    DigitOrCapital,
+    Alphanumeric,
+    Zero,
+}
+
+// Whether a byte is of a kind.
+fn of_kind(kind: Kind, x: u8) -> bool
+    ensures { λ r. ⌜ r ≡ ofKind kind x ⌝ }
+{
+    let digit = (48 <= x) & (x <= 57);
+    let capital = (65 <= x) & (x <= 90);
+    let small = (97 <= x) & (x <= 122);
+    match kind {
+        Kind::Digit => digit,
+        Kind::Capital => capital,
+        Kind::DigitOrCapital => digit | capital,
+        Kind::Alphanumeric => digit | capital | small,
+        Kind::Zero => x == 48,
+    }
+}
+
+// Whether every byte is of a kind.
+pub fn every(kind: Kind, s: &[u8]) -> bool
+    ensures { λ r. ⌜ r ≡ every (ofKind kind) (now (s .entry)) ⌝ }
+{
+    let mut i = 0;
+    while i < s.len() {
+        if of_kind(kind, s[i]) {
+            i += 1;
+        } else {
+            return false;
+        }
+    }
+    true
+}
+
+// Copies bytes to the front of `dest`, and answers how many; none where they do not fit, and `dest` stays as it is.
+pub fn lay(dest: &mut [u8], bytes: &[u8]) -> usize
+    ensures { λ r. ⌜ r ≡ room (now (dest .entry)) (now (bytes .entry)) ⌝ }
+    ensures { λ _. ⌜ now (dest .exit) ≡ laid (now (dest .entry)) (now (bytes .entry)) ⌝ }
+{
+    if dest.len() < bytes.len() {
+        return 0;
+    }
+    let mut i = 0;
+    while i < bytes.len() {
+        dest[i] = bytes[i];
+        i += 1;
+    }
+    i
+}
