@@ -166,13 +166,18 @@ fn reserved(before: Finding, payload: &[u8], places: &[u16]) -> Finding
     requires { ⌜ now places ≡ listed (now payload) ⌝ }
     ensures { λ r. ⌜ finding r ≡ first (finding before ∷ map (aboutLines (linesOf (cut (now (payload .entry))))) reserved) ⌝ }
 {
-    let f = empty(before, line(payload, places, 12), 12, true);
-    let f = empty(f, line(payload, places, 13), 13, true);
-    let f = empty(f, line(payload, places, 14), 14, true);
-    let f = empty(f, line(payload, places, 15), 15, true);
-    let f = empty(f, line(payload, places, 16), 16, true);
-    let f = empty(f, line(payload, places, 17), 17, true);
-    empty(f, line(payload, places, 18), 18, true)
+    match before {
+        Finding::Broken(f) => Finding::Broken(f),
+        Finding::Kept => {
+            let f = empty(Finding::Kept, line(payload, places, 12), 12, true);
+            let f = empty(f, line(payload, places, 13), 13, true);
+            let f = empty(f, line(payload, places, 14), 14, true);
+            let f = empty(f, line(payload, places, 15), 15, true);
+            let f = empty(f, line(payload, places, 16), 16, true);
+            let f = empty(f, line(payload, places, 17), 17, true);
+            empty(f, line(payload, places, 18), 18, true)
+        }
+    }
 }
 
 // Lines 19 and 20.

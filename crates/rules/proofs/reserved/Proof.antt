@@ -1,9 +1,16 @@
 -- `rules::reserved` meets its contract: the findings of seven lines, put end to end. Assumes nothing.
 use native.Mathlib.Omega.{arith}
-use Rattle.findings.proofs.Firsts.{then}
+use mathlib.Core.Path.{sym}
+use Rattle.findings.proofs.Firsts.{then, first-some}
 use borrow.Author.Needs.{needs}
 use Rattle.rules.proofs.reserved.Statement.{statement}
 use Rattle.rules.proofs.reserved.Tie as tie
+
+enum-known-before : tie.Need-enum-known-before
+enum-known-before c = search needs
+
+enum-told : tie.Need-enum-told
+enum-told c = search needs
 
 line-requires : tie.Need-line-requires
 line-requires c κs = search needs
@@ -36,19 +43,23 @@ empty-requires-5 : tie.Need-empty-requires-5
 empty-requires-5 c κs = search needs
 
 line-requires-6 : tie.Need-line-requires-6
-line-requires-6 c κs = search needs
+line-requires-6 c κs = (c .before .before .before .before .before .before .before .before .before .before .before .before .before .before .pre, omega arith, omega arith)
 
 empty-requires-6 : tie.Need-empty-requires-6
 empty-requires-6 c κs = search needs
 
 line-requires-7 : tie.Need-line-requires-7
-line-requires-7 c κs = (c .before .before .before .before .before .before .before .before .before .before .before .before .before .before .pre, omega arith, omega arith)
+line-requires-7 c κs = (c .before .before .before .before .before .before .before .before .before .before .before .before .before .before .before .before .pre, omega arith, omega arith)
 
 empty-requires-7 : tie.Need-empty-requires-7
 empty-requires-7 c κs = search needs
 
 returns : tie.Need-returns
-returns c =
+returns c = rw (c .before .before2 .given .1) (sym (first-some _ _))
+
+returns-2 : tie.Need-returns-2
+returns-2 c =
+    rw (c .before .before .before .before .before .before .before .before .before .before .before .before .before .before .enum-told .given .1)
     (then _ _
     (then _ _
     (then _ _
@@ -65,6 +76,8 @@ pub reserved-spec : {M : Type 1} → statement M
 reserved-spec =
     tie.close
     (tie.spec
+    enum-known-before
+    enum-told
     line-requires
     empty-requires
     line-requires-2
@@ -79,4 +92,5 @@ reserved-spec =
     empty-requires-6
     line-requires-7
     empty-requires-7
-    returns)
+    returns
+    returns-2)
