@@ -28,13 +28,15 @@ pub fn in_one(x: u8) -> bool
     (0x20 <= x) & (x <= 0x7E)
 }
 
-// C2 then A0 to BF; C3, C4 or C5 then 80 to BF; C8 then 98 to 9B.
+// C2 then A0 to BF; C3, C4 or C5 then 80 to BF; C8 then 98 to 9B. Umlauts and accents begin with C3, so that is asked
+// first.
 fn in_two(x: u8, y: u8) -> bool
     ensures { λ r. ⌜ r ≡ inTwo x y ⌝ }
 {
-    (x == 0xC2) & ((0xA0 <= y) & (y <= 0xBF))
-        | ((0xC3 <= x) & (x <= 0xC5)) & ((0x80 <= y) & (y <= 0xBF))
-        | (x == 0xC8) & ((0x98 <= y) & (y <= 0x9B))
+    if (0xC3 <= x) & (x <= 0xC5) {
+        return (0x80 <= y) & (y <= 0xBF);
+    }
+    (x == 0xC2) & ((0xA0 <= y) & (y <= 0xBF)) | (x == 0xC8) & ((0x98 <= y) & (y <= 0x9B))
 }
 
 // E2 82 AC.
