@@ -13,7 +13,8 @@ small : (c : tie.Then1) → let a = c .before .args in (a .n < 34) × ((a .start
 small c =
     let (p, q) = and-eq-true-iff _ _ .0 (c .if1 .taken) in
     let (i, j) = and-eq-true-iff _ _ .0 p in
-    (ltb-true _ _ i, (leb-true _ _ j, leb-true _ _ q))
+    let below = ltb-true (c .before .args .n) _ i in
+    (omega arith, (leb-true _ _ j, leb-true _ _ q))
 
 cast-places : tie.Need-cast-places
 cast-places c = omega (arith, small c .1 .0)
