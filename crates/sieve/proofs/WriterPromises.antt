@@ -16,12 +16,12 @@ use Rattle.sieve.specs.Keeps.{Keeps}
 use Rattle.sieve.specs.Demand.{Is}
 use Rattle.sieve.specs.Places.{placed, placesOf, listSize}
 use Rattle.sieve.specs.Paper.{laid, not-laid}
-use Rattle.sieve.specs.Writing.{outside, Span, spans, part, handed, writeFindings, laidOnto, writeAnswer}
+use Rattle.sieve.specs.Writing.{outside, Span, spans, part, handed, strayBreak, writeFindings, laidOnto, writeAnswer}
 use Rattle.sieve.proofs.Accepts.{within-both, clean-read-back, read-back}
 use Rattle.sieve.proofs.Findings.{found-none, each-none, first-nil, none-first, settled-accepts, verdict-is}
 use Rattle.sieve.proofs.Placing.{span, spans-of, length-placed, list-length, places-cut-out}
 use Rattle.sieve.proofs.ReaderPromises.{spans-front}
-use Rattle.sieve.proofs.Strays.{unstray-clean, clean-unstray}
+use Rattle.sieve.proofs.Strays.{unstray-clean, clean-unstray, same-bytes-clean}
 use Rattle.sieve.proofs.DemandThree.{demand-three, keeps-clean, accepted-keeps}
 
 pub handed-length : (text : Bytes) (list : List ℕ) (n : ℕ) → length (handed text list n) ≡ n
@@ -69,6 +69,23 @@ module _ (L : Layout) (text : Bytes) (list : List ℕ) (count : ℕ) (k : Break)
         let back = clean-read-back b (omega (arith, size)) (unstray-clean k (b .lines) 1 0 (none-at 3)) in
         let v : verdict L (written b) ≡ accepted count k = verdict-is L (written b) ∙ rw (none-at 4, back, size) in
         (v, back, accepted-keeps L laws two b count k back v)
+
+-- stray breaks and the verdict on the joined lines
+module _ (L : Layout) (k : Break) (ls : List Bytes) where
+  -- lines without a stray break are counted as they are, and their break is the one that is found
+  pub unstray-counted : 2 ≤ length ls → strayBreak 1 (placed 0 k ls) ≡ none → {n : ℕ} {j : Break} → verdict L (joined k ls) ≡ accepted n j → (length ls ≡ n) × (k ≡ j)
+  unfolding written
+  unstray-counted enough unstray h =
+      let back = clean-read-back (record { lines = ls; break = k }) enough (unstray-clean k ls 1 0 unstray) in
+      let (_, count, break) = settled-accepts (billOf (joined k ls)) (first (findings L (joined k ls))) (sym (verdict-is L (joined k ls)) ∙ h) in
+      (rw back at count, rw back at break)
+
+  -- and where as many lines are counted, and their break is found, there is no stray break
+  pub counted-unstray : ((ls : List Bytes) → Lawful (L .width ls)) → 2 ≤ L .fewest-lines → verdict L (joined k ls) ≡ accepted (length ls) k → strayBreak 1 (placed 0 k ls) ≡ none
+  unfolding written
+  counted-unstray laws two h =
+      let (b, is) = demand-three L laws two .accepts .sound (joined k ls) (length ls) k h in
+      clean-unstray k ls 1 0 (same-bytes-clean k ls (b .lines) (sym (is .count)) (sym (rw (is .break) at (is .writes))) (keeps-clean L laws b (is .keeps)))
 
 -- places that lie inside a text of n bytes
 abbrev pub NoneOutside : ℕ → List Span → Type 0

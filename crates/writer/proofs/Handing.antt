@@ -156,16 +156,20 @@ module _ (text : Bytes) (list : List ℕ) (count : ℕ) (k : Break) where
     unfolding strayBreak placed
     stray-later e = rw (next-line text list count i h, found-at none e, strayBreak) (rw (add-one (i + 1)))
 
-    pub length-here : breaksAll k (still text list count i) ≡ length l + length (breakBytes k) + breaksAll k (still text list count (i + 1))
-    unfolding breaksAll
-    length-here = rw (next-line text list count i h)
-
   pub all-breaks : 1 ≤ count → length (joined k (handed text list count)) + length (breakBytes k) ≡ breaksAll k (still text list count 0)
   all-breaks h = rw (← from-start, next-line text list count 0 h) (one-break-more k (lineAt text list 0) (still text list count 1))
 
-  pub none-left : (i at : ℕ) → count ≤ i → (strayFrom i at ≡ none) × (breaksAll k (still text list count i) ≡ 0)
-  unfolding strayBreak placed breaksAll
-  none-left i at h = (rw (no-line text list count i h), rw (no-line text list count i h))
+  pub length-here : (i : ℕ) → i < count → breaksAll k (still text list count i) ≡ length (lineAt text list i) + length (breakBytes k) + breaksAll k (still text list count (i + 1))
+  unfolding breaksAll
+  length-here i h = rw (next-line text list count i h)
+
+  pub no-bytes-left : (i : ℕ) → count ≤ i → breaksAll k (still text list count i) ≡ 0
+  unfolding breaksAll
+  no-bytes-left i h = rw (no-line text list count i h)
+
+  pub no-stray-left : (i at : ℕ) → count ≤ i → strayFrom i at ≡ none
+  unfolding strayBreak placed
+  no-stray-left i at h = rw (no-line text list count i h)
 
   -- what is still to be laid: a line with what comes after it, and then the rest
   pub joined-next : (i : ℕ) → i < count → joined k (still text list count i) ≡ withBreak (lineAt text list i) (breakIf (ltb (i + 1) count) k) ++ joined k (still text list count (i + 1))

@@ -2,20 +2,23 @@
 use Prim.Native.Nat.{ℕ, suc, _-_, _≤_, _<_}
 use native.Mathlib.Nat.{sub-zero}
 use native.Mathlib.Omega.{arith}
-use mathlib.Core.Bool.{true, false, not}
+use mathlib.Core.Bool.{Bool, true, false, true≢false, not, _&&_, and-eq-true-iff}
 use mathlib.Core.List.{List, [], _∷_, _++_}
 use mathlib.Core.Option.{Option, some, none, Option·getD, Option·none-ne-some}
 use mathlib.Core.Path.{_≡_, refl, sym, ap, _∙_}
+use lib.Dec.{eqb, lit≤}
 use lib.ListN.{length, drop}
 use lib.Seq.{take-append-seam}
 use borrow.Rule.Slice.PartMut.{midOf}
-use borrow.Author.Tests.{lt-ltb, le-ltb}
+use borrow.Author.Tests.{lt-ltb, le-ltb, eqb-true, eq-eqb}
 use Rattle.sieve.specs.declared.Break.{Break}
+use Rattle.sieve.specs.declared.Break.the-variants.{Lf, CrLf}
 use Rattle.sieve.specs.declared.Fault.{Fault}
 use Rattle.sieve.specs.declared.Fault.the-variants.{TooManyBytes, BadCharacter, LineCount, OutsideText, NoRoom}
+use Rattle.sieve.specs.declared.Written.{Written}
 use Rattle.sieve.specs.declared.Written.the-variants.{Length, Refused}
 use Rattle.sieve.specs.Bytes.{Bytes, within, firstSuch}
-use Rattle.sieve.specs.Lines.{ofBreak, billOf}
+use Rattle.sieve.specs.Lines.{breakBytes, ofBreak, billOf}
 use Rattle.sieve.specs.Verdict.{Refusal, under, underAt, accepted, refused, findings, found, first, verdict}
 use Rattle.sieve.specs.Paper.{paperFault}
 use Rattle.sieve.specs.Places.{Placed, placed}
@@ -23,12 +26,13 @@ use Rattle.sieve.specs.Reading.{noRoom}
 use Rattle.sieve.specs.Writing.{spans, handed, outsideText, strayBreak, writeFindings, writeAnswer}
 use Rattle.sieve.proofs.Accepts.{within-both}
 use Rattle.sieve.proofs.Findings.{first-nil, settled-accepts, settled-refuses, verdict-is}
+use Rattle.sieve.proofs.WriterPromises.{handed-length, unstray-counted, counted-unstray}
 use Rattle.swiss.specs.Limits.{mostBytes, fewestLines, mostLines}
 use Rattle.swiss.specs.Swiss.{swiss}
+use Rattle.swiss.proofs.Latin.{lawful}
 use Rattle.judge.proofs.Stages.{too-many}
 use Rattle.writer.specs.declared.Outside.the-variants.{Nowhere, At}
-use Rattle.writer.specs.declared.Measured.the-variants.{Stray, Length as Fits}
-use Rattle.writer.specs.Handing.{outsideAs, firstOutside, measuredAs, measured}
+use Rattle.writer.specs.Handing.{outsideAs, firstOutside, strayAs, firstStray, refusal}
 use Rattle.writer.specs.Writing.{IsWritten, bytes, Reached, InText, Joined, Readable}
 use Rattle.writer.proofs.Handing.{all-inside}
 
@@ -41,6 +45,13 @@ stray-three i (l ∷ ls) r h = go (firstSuch ofBreak (l .start) (l .text)) refl 
     go : (o : Option ℕ) → firstSuch ofBreak (l .start) (l .text) ≡ o → (strayBreak (suc i) ls ≡ some r → r ≡ underAt 3 (r .line) (Option·getD (r .place) 0)) → r ≡ underAt 3 (r .line) (Option·getD (r .place) 0)
     go none e ih = ih (rw (e, strayBreak) at h)
     go (some at) e ih = let q : _≡_ {A = Option Refusal} (some (underAt 3 i at)) (some r) = rw (e, strayBreak) at h in let s : underAt 3 i at ≡ r = cc in rw (← s)
+
+-- breaks of one length are one break
+one-break : (j k : Break) → length (breakBytes j) ≡ length (breakBytes k) → j ≡ k
+one-break Lf Lf h = refl
+one-break Lf CrLf h = absurd (omega arith)
+one-break CrLf Lf h = absurd (omega arith)
+one-break CrLf CrLf h = refl
 
 module _ (text : Bytes) (list : List ℕ) (count : ℕ) (k : Break) (dest : Bytes) where
   abbrev B : Bytes
@@ -115,48 +126,60 @@ module _ (text : Bytes) (list : List ℕ) (count : ℕ) (k : Break) (dest : Byte
               let (least, most) = within-both fewestLines mostLines count good in
               record {
                 inside = all-inside text list count (omega arith) e;
-                some-lines = omega arith;
+                enough = least;
                 not-too-many = most;
                 reached = passed lineFindings at-places (rw e);
               }
 
-  -- the lines
+  -- a refusal: a stray break, or else what the reader finds in the joined bytes
 
-  pub stray-found : (i at : ℕ) → InText text list count k dest → Stray i at ≡ measured text list count k → IsWritten text list count k dest (Refused (BadCharacter i at)) dest
-  unfolding measured
-  stray-found i at f h = go (strayBreak 1 (placed 0 k (handed text list count))) refl h
+  refused-so : (q : Fault) → InText text list count k dest → (strayBreak 1 (placed 0 k (handed text list count)) ≡ none → first (findings swiss B) ≡ some (paperFault q))
+      → (r : Written) → r ≡ refusal (firstStray text list count k) q → IsWritten text list count k dest r dest
+  unfolding firstStray
+  refused-so q f h r is = rw is (go (strayBreak 1 (placed 0 k (handed text list count))) refl)
     where
-      go : (o : Option Refusal) → strayBreak 1 (placed 0 k (handed text list count)) ≡ o → Stray i at ≡ measuredAs o (length B) → IsWritten text list count k dest (Refused (BadCharacter i at)) dest
-      go none e q = let z : _≡_ {A = ℕ} 0 1 = cc in absurd (omega arith)
-      go (some r) e q =
-          let a : i ≡ r .line = cc in
-          let b : at ≡ Option·getD (r .place) 0 = cc in
-          stopped joinedFindings (BadCharacter i at) (f .reached) (e ∙ ap some (rw (a, b) (stray-three 1 _ r e)))
+      go : (o : Option Refusal) → strayBreak 1 (placed 0 k (handed text list count)) ≡ o → IsWritten text list count k dest (refusal (strayAs o) q) dest
+      go none e = stopped _ q (passed joinedFindings (f .reached) e) (h e)
+      go (some s) e = stopped joinedFindings (BadCharacter (s .line) (Option·getD (s .place) 0)) (f .reached) (e ∙ ap some (stray-three 1 _ s e))
 
-  pub none-stray : (n : ℕ) → InText text list count k dest → Fits n ≡ measured text list count k → Joined text list count k dest n
-  unfolding measured
-  none-stray n f h = go (strayBreak 1 (placed 0 k (handed text list count))) refl h
-    where
-      go : (o : Option Refusal) → strayBreak 1 (placed 0 k (handed text list count)) ≡ o → Fits n ≡ measuredAs o (length B) → Joined text list count k dest n
-      go (some r) e q = let z : _≡_ {A = ℕ} 0 1 = cc in absurd (omega arith)
-      go none e q = let long : n ≡ length B = cc in record { inside = f .inside; bytes-are = long; reached = passed joinedFindings (f .reached) e }
+  reader-finds : (q : Fault) → verdict swiss B ≡ refused (paperFault q) → first (findings swiss B) ≡ some (paperFault q)
+  reader-finds q h = settled-refuses (billOf B) (first (findings swiss B)) (paperFault q) (sym (verdict-is swiss B) ∙ h)
 
-  -- the joined bytes
+  pub reader-refuses : (q : Fault) → InText text list count k dest → verdict swiss B ≡ refused (paperFault q)
+      → (r : Written) → r ≡ refusal (firstStray text list count k) q → IsWritten text list count k dest r dest
+  reader-refuses q f h = refused-so q f (λ e. reader-finds q h)
 
-  module _ (n : ℕ) (f : Joined text list count k dest n) where
-    pub reader-refuses : (q : Fault) → verdict swiss B ≡ refused (paperFault q) → IsWritten text list count k dest (Refused q) dest
-    reader-refuses q h = stopped _ q (f .reached) (settled-refuses (billOf B) (first (findings swiss B)) (paperFault q) (sym (verdict-is swiss B) ∙ h))
+  pub too-many-bytes : (n : ℕ) → InText text list count k dest → n ≡ length B → mostBytes < n
+      → (r : Written) → r ≡ refusal (firstStray text list count k) TooManyBytes → IsWritten text list count k dest r dest
+  too-many-bytes n f long h = reader-refuses TooManyBytes f (too-many B (λ z. absurd (omega arith)) (omega arith))
 
-    pub too-many-bytes : mostBytes < n → IsWritten text list count k dest (Refused TooManyBytes) dest
-    too-many-bytes h = reader-refuses TooManyBytes (too-many B (λ z. absurd (omega (arith, f .bytes-are))) (omega (arith, f .bytes-are)))
+  -- the count and the break that the reader finds, beside those of the lines
 
-    pub reader-accepts : (m : ℕ) (j : Break) → verdict swiss B ≡ accepted m j → Readable text list count k dest n
-    reader-accepts m j h =
-        record {
-          inside = f .inside;
-          bytes-are = f .bytes-are;
-          reached = passed (noRoom (length dest) (length B) ∷ []) (f .reached) (settled-accepts (billOf B) (first (findings swiss B)) (sym (verdict-is swiss B) ∙ h) .0);
-        }
+  abbrev pub readAs : ℕ → Break → Bool
+  readAs m j = eqb m count && eqb (length (breakBytes j)) (length (breakBytes k))
+
+  pub read-otherwise : (m : ℕ) (j : Break) (q : Fault) → InText text list count k dest → verdict swiss B ≡ accepted m j → readAs m j ≡ false
+      → (r : Written) → r ≡ refusal (firstStray text list count k) q → IsWritten text list count k dest r dest
+  read-otherwise m j q f h other =
+      let size = handed-length text list count in
+      refused-so q f
+      (λ e.
+      let (n, same) = unstray-counted swiss k (handed text list count) (omega (arith, f .enough)) e h in
+      let all : m ≡ count = sym n ∙ size in
+      let yes : readAs m j ≡ true = rw (all, ← same, eq-eqb count count refl, eq-eqb (length (breakBytes k)) (length (breakBytes k)) refl) in
+      absurd (true≢false (sym yes ∙ other)))
+
+  pub reader-accepts : (n m : ℕ) (j : Break) → Joined text list count k dest n → verdict swiss B ≡ accepted m j → readAs m j ≡ true → Readable text list count k dest n
+  unfolding swiss
+  reader-accepts n m j f h same =
+      let (a, b) = and-eq-true-iff (eqb m count) _ .0 same in
+      let all : m ≡ length (handed text list count) = eqb-true m count a ∙ sym (handed-length text list count) in
+      let unstray = counted-unstray swiss k (handed text list count) (λ ls. lawful) (lit≤ tt) (rw (all, one-break j k (eqb-true _ _ b)) at h) in
+      record {
+        inside = f .in-text .inside;
+        bytes-are = f .bytes-are;
+        reached = passed (noRoom (length dest) (length B) ∷ []) (passed joinedFindings (f .in-text .reached) unstray) (settled-accepts (billOf B) (first (findings swiss B)) (sym (verdict-is swiss B) ∙ h) .0);
+      }
 
   -- room
 

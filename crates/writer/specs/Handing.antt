@@ -1,19 +1,23 @@
--- What the writer's parts answer: places outside the text, stray breaks, the joined length. Assumes nothing.
+-- What the writer's parts answer: places outside the text, stray breaks, a refusal, a line with its break. Assumes nothing.
 use Prim.Native.Nat.{ℕ, _+_, _*_, _≤_, _<_}
 use mathlib.Core.Bool.{Bool, true, false}
 use mathlib.Core.List.{List, _++_}
 use mathlib.Core.Option.{Option, some, none, Option·getD}
 use lib.ListN.{length, getD}
 use Rattle.sieve.specs.declared.Break.{Break}
+use Rattle.sieve.specs.declared.Fault.{Fault}
+use Rattle.sieve.specs.declared.Fault.the-variants.{BadCharacter}
+use Rattle.sieve.specs.declared.Written.{Written}
+use Rattle.sieve.specs.declared.Written.the-variants.{Refused}
 use Rattle.sieve.specs.Bytes.{Bytes, firstSuch}
-use Rattle.sieve.specs.Lines.{breakBytes, joined}
+use Rattle.sieve.specs.Lines.{breakBytes}
 use Rattle.sieve.specs.Verdict.{Refusal}
 use Rattle.sieve.specs.Places.{placed}
 use Rattle.sieve.specs.Writing.{Span, outside, spans, part, handed, strayBreak}
 use Rattle.writer.specs.declared.Outside.{Outside}
 use Rattle.writer.specs.declared.Outside.the-variants.{Nowhere, At}
-use Rattle.writer.specs.declared.Measured.{Measured}
-use Rattle.writer.specs.declared.Measured.the-variants.{Stray, Length}
+use Rattle.writer.specs.declared.StrayByte.{StrayByte}
+use Rattle.writer.specs.declared.StrayByte.the-variants.{Nowhere as NoStray, At as StrayAt}
 use Rattle.writer.specs.declared.After.{After}
 use Rattle.writer.specs.declared.After.the-variants.{Nothing, ABreak}
 
@@ -37,13 +41,18 @@ pub record Inside (text : Bytes) (list : List ℕ) (count : ℕ) : Type 0 where
   pub there : 2 * count ≤ length list
   pub inside : (i : ℕ) → i < count → getD list (2 * i) 0 + getD list (2 * i + 1) 0 ≤ length text
 
--- the first stray break; where there is none, the length of the joined bytes
-abbrev pub measuredAs : Option Refusal → ℕ → Measured
-measuredAs none n = Length n
-measuredAs (some r) n = Stray (r .line) (Option·getD (r .place) 0)
+-- the first stray break: its line, and its place in the joined bytes
+abbrev pub strayAs : Option Refusal → StrayByte
+strayAs none = NoStray
+strayAs (some r) = StrayAt (r .line) (Option·getD (r .place) 0)
 
-unfoldable pub measured : Bytes → List ℕ → ℕ → Break → Measured
-measured text list count k = measuredAs (strayBreak 1 (placed 0 k (handed text list count))) (length (joined k (handed text list count)))
+unfoldable pub firstStray : Bytes → List ℕ → ℕ → Break → StrayByte
+firstStray text list count k = strayAs (strayBreak 1 (placed 0 k (handed text list count)))
+
+-- a stray break comes before what else is at fault
+abbrev pub refusal : StrayByte → Fault → Written
+refusal NoStray f = Refused f
+refusal (StrayAt i at) f = Refused (BadCharacter i at)
 
 -- a line, and the break after it where one is asked for
 abbrev pub withBreak : Bytes → After → Bytes

@@ -13,7 +13,7 @@ use Rattle.sieve.specs.Paper.{paperWritten}
 use Rattle.sieve.specs.Places.{placed}
 use Rattle.sieve.specs.Reading.{noRoom}
 use Rattle.sieve.specs.Writing.{handed, strayBreak, writeFindings, writeAnswer}
-use Rattle.swiss.specs.Limits.{mostLines}
+use Rattle.swiss.specs.Limits.{mostBytes, fewestLines, mostLines}
 use Rattle.swiss.specs.Swiss.{swiss}
 use Rattle.writer.specs.Handing.{Inside}
 
@@ -35,17 +35,17 @@ module _ (text : Bytes) (list : List ℕ) (count : ℕ) (k : Break) (dest : Byte
   -- the list, the count and the places are good
   pub record InText : Type 0 where
     pub inside : Inside text list count
-    pub some-lines : 1 ≤ count
+    pub enough : fewestLines ≤ count
     pub not-too-many : count ≤ mostLines
     pub reached : Reached (strayBreak 1 (placed 0 k (handed text list count)) ∷ first (findings swiss bytes) ∷ noRoom (length dest) (length bytes) ∷ [])
 
-  -- no line holds a break, and joined they are n bytes
+  -- joined they are n bytes, no more than a bill may have
   pub record Joined (n : ℕ) : Type 0 where
-    pub inside : Inside text list count
+    pub in-text : InText
     pub bytes-are : n ≡ length bytes
-    pub reached : Reached (first (findings swiss bytes) ∷ noRoom (length dest) (length bytes) ∷ [])
+    pub fits : n ≤ mostBytes
 
-  -- the reader accepts them
+  -- the reader accepts them, so that no line holds a break
   pub record Readable (n : ℕ) : Type 0 where
     pub inside : Inside text list count
     pub bytes-are : n ≡ length bytes

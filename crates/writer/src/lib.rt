@@ -17,7 +17,7 @@ ghost use Prim.Native.Nat.{_+_, _*_, _≤_, _<_};
 ghost use lib.ListN.{length, drop, getD};
 ghost use Rattle.sieve.specs.Lines.{joined};
 ghost use Rattle.sieve.specs.Writing.{handed};
-ghost use Rattle.writer.specs.Handing.{lineAt, outsideAs, firstOutside, Inside, measured, withBreak, breakIf};
+ghost use Rattle.writer.specs.Handing.{lineAt, outsideAs, firstOutside, Inside, firstStray, refusal, withBreak, breakIf};
 ghost use Rattle.writer.specs.Writing.{IsWritten, InText, Joined, Readable};
 
 // The line that entry i of a list, counted from 0, gives of a text.
@@ -52,31 +52,57 @@ fn first_outside(text: &[u8], list: &[u16], count: usize) -> Outside
     Outside::Nowhere
 }
 
-// What the lines come to when they are joined.
-enum Measured {
-    // a line that holds CR or LF, and that byte's place in the joined bytes
-    Stray(usize, usize),
-    // how many bytes
-    Length(usize),
+// How many bytes the lines come to when they are joined.
+fn joined_length(text: &[u8], list: &[u16], count: usize, k: Break) -> usize
+    requires { ⌜ Inside (now text) (now list) count × (1 ≤ count) × (count ≤ 34) ⌝ }
+    ensures { λ r. ⌜ r ≡ length (joined k (handed (now (text .entry)) (now (list .entry)) count)) ⌝ }
+{
+    let mut at = 0;
+    let mut i = 0;
+    while i < count {
+        let line = handed_line(text, list, i);
+        at = at + line.len() + break_length(k);
+        i += 1;
+    }
+    at - break_length(k)
 }
 
-fn measure(text: &[u8], list: &[u16], count: usize, k: Break) -> Measured
-    requires { ⌜ Inside (now text) (now list) count × (1 ≤ count) × (count ≤ 34) ⌝ }
-    ensures { λ r. ⌜ r ≡ measured (now (text .entry)) (now (list .entry)) count k ⌝ }
+// The first CR or LF in a line.
+enum StrayByte {
+    Nowhere,
+    // the line that holds it, counted from 1, and its place in the joined bytes
+    At(usize, usize),
+}
+
+fn first_stray(text: &[u8], list: &[u16], count: usize, k: Break) -> StrayByte
+    requires { ⌜ Inside (now text) (now list) count × (count ≤ 34) ⌝ }
+    ensures { λ r. ⌜ r ≡ firstStray (now (text .entry)) (now (list .entry)) count k ⌝ }
 {
     let mut at = 0;
     let mut i = 0;
     while i < count {
         let line = handed_line(text, list, i);
         match stray_break(line) {
-            Stray::At(j) => return Measured::Stray(i + 1, at + j),
+            Stray::At(j) => return StrayByte::At(i + 1, at + j),
             Stray::Nowhere => {
                 at = at + line.len() + break_length(k);
                 i += 1;
             }
         }
     }
-    Measured::Length(at - break_length(k))
+    StrayByte::Nowhere
+}
+
+// Refuses lines that lie inside the text. A stray break comes before the fault that the reader finds in the joined
+// lines. It is looked for only here, since the lines of an accepted bill hold none.
+fn refuse(text: &[u8], list: &[u16], count: usize, k: Break, fault: Fault) -> Written
+    requires { ⌜ Inside (now text) (now list) count × (count ≤ 34) ⌝ }
+    ensures { λ r. ⌜ r ≡ refusal (firstStray (now (text .entry)) (now (list .entry)) count k) fault ⌝ }
+{
+    match first_stray(text, list, count, k) {
+        StrayByte::At(i, at) => Written::Refused(Fault::BadCharacter(i, at)),
+        StrayByte::Nowhere => Written::Refused(fault),
+    }
 }
 
 // What is laid after a line.
@@ -172,28 +198,33 @@ fn write_joined(
     requires { ⌜ Joined (now text) (now list) count k (now dest) n ⌝ }
     ensures { λ r. ⌜ IsWritten (now (text .entry)) (now (list .entry)) count k (now (dest .entry)) r (now (dest .exit)) ⌝ }
 {
-    if MOST_BYTES < n {
-        return Written::Refused(Fault::TooManyBytes);
-    }
     let mut joined = [0; 997];
     lay_lines(&mut joined, text, list, count, k);
     let judged = judge(&joined[0..n]);
     let answer = judged.answer;
     match answer {
-        Answer::Refused(f) => Written::Refused(f),
-        Answer::Accepted(_, _) => write_accepted(text, list, count, k, dest, n),
+        Answer::Refused(f) => refuse(text, list, count, k, f),
+        Answer::Accepted(read, j) => {
+            if (read == count) & (break_length(j) == break_length(k)) {
+                write_accepted(text, list, count, k, dest, n)
+            } else {
+                // the reader found other lines than these: one of them holds a break, which is then the fault
+                refuse(text, list, count, k, Fault::LineCount(read))
+            }
+        }
     }
 }
 
-// Looks for stray breaks in lines that all lie inside the text.
+// Joins lines that all lie inside the text, unless they are too many bytes for a bill.
 fn write_lines(text: &[u8], list: &[u16], count: usize, k: Break, dest: &mut [u8]) -> Written
     requires { ⌜ InText (now text) (now list) count k (now dest) ⌝ }
     ensures { λ r. ⌜ IsWritten (now (text .entry)) (now (list .entry)) count k (now (dest .entry)) r (now (dest .exit)) ⌝ }
 {
-    match measure(text, list, count, k) {
-        Measured::Stray(i, at) => Written::Refused(Fault::BadCharacter(i, at)),
-        Measured::Length(n) => write_joined(text, list, count, k, dest, n),
+    let n = joined_length(text, list, count, k);
+    if MOST_BYTES < n {
+        return refuse(text, list, count, k, Fault::TooManyBytes);
     }
+    write_joined(text, list, count, k, dest, n)
 }
 
 // Joins the lines that the first `count` places give of the text, with the break between them, in the front of the

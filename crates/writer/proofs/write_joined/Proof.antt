@@ -1,16 +1,13 @@
 -- `writer::write_joined` meets its contract: the verdict on the joined bytes, which lie in a buffer. Assumes nothing.
 use Rattle.writer.specs.Writing.{bytes}
 use Rattle.swiss.specs.Swiss.{swiss}
-use Rattle.sieve.specs.Verdict.{verdict}
+use Rattle.sieve.specs.Verdict.{accepted, verdict}
 use Rattle.sieve.specs.Paper.{paper}
 use mathlib.Core.Path.{_≡_, sym, ap, _∙_}
-use Rattle.writer.proofs.Writing.{laid-front, too-many-bytes, reader-accepts, reader-refuses}
+use Rattle.writer.proofs.Writing.{laid-front, reader-refuses, read-otherwise, reader-accepts}
 use borrow.Author.Needs.{needs}
 use Rattle.writer.proofs.write_joined.Statement.{statement}
 use Rattle.writer.proofs.write_joined.Tie as tie
-
-returns : tie.Need-returns
-returns c = too-many-bytes (c .before .before .before .before .args .text .now) (c .before .before .before .before .args .list .now) (c .before .before .before .before .args .count) (c .before .before .before .before .args .k) (c .before .before .before .before .args .dest .now) _ (c .before .before .before .before .pre) (c .if1 .taken)
 
 slice-aggregate-lay-lines : tie.Need-slice-aggregate-lay-lines
 slice-aggregate-lay-lines c = search needs
@@ -31,32 +28,59 @@ judge-requires : tie.Need-judge-requires
 judge-requires c κs = search needs
 
 -- the verdict is that on the joined bytes, which lie in the front of the buffer
-judged-bytes : (c : tie.After-judge) → let s = c .before .before .before .before .before .before .before .before .before .before in let a = s .args in paper (c .judge .result .answer) ≡ verdict swiss (bytes (a .text .now) (a .list .now) (a .count) (a .k) (a .dest .now))
-judged-bytes c = c .judge .ensures .answer ∙ ap (verdict swiss) (laid-front _ _ _ _ (c .before .before .before .before .before .before .before .before .before .before .pre .bytes-are) (c .before .before .before .before .lay-lines .ensures))
+judged-bytes : (c : tie.After-judge) → let a = c .before .before .before .before .before .before .before .before .before .args in paper (c .judge .result .answer) ≡ verdict swiss (bytes (a .text .now) (a .list .now) (a .count) (a .k) (a .dest .now))
+judged-bytes c = c .judge .ensures .answer ∙ ap (verdict swiss) (laid-front _ _ _ _ (c .before .before .before .before .before .before .before .before .before .pre .bytes-are) (c .before .before .before .before .lay-lines .ensures))
+
+-- the count and the break that were read, where it accepts
+read-bytes : (c : tie.After-break-length2) → let a = c .before .before .before .before .before .before .before .before .before .before .before .before .before .before .args in verdict swiss (bytes (a .text .now) (a .list .now) (a .count) (a .k) (a .dest .now)) ≡ accepted (c .before .before .before .answer2 .given .0 .0) (c .before .before .before .answer2 .given .0 .1 .0)
+read-bytes c = sym (judged-bytes (c .before .before .before .before .before)) ∙ ap paper (c .before .before .before .answer2 .given .1)
 
 enum-known-answer : tie.Need-enum-known-answer
 enum-known-answer c = search needs
 
-enum-told : tie.Need-enum-told
-enum-told c = search needs
+refuse-requires : tie.Need-refuse-requires
+refuse-requires c κs = search needs
+
+enum-known-answer-2 : tie.Need-enum-known-answer-2
+enum-known-answer-2 c = search needs
+
+break-length-requires : tie.Need-break-length-requires
+break-length-requires c κs = search needs
+
+break-length-requires-2 : tie.Need-break-length-requires-2
+break-length-requires-2 c κs = search needs
 
 write-accepted-requires : tie.Need-write-accepted-requires
-write-accepted-requires c κs = reader-accepts (c .before .before .before .before .before .before .before .before .before .before .before .before .before .args .text .now) (c .before .before .before .before .before .before .before .before .before .before .before .before .before .args .list .now) (c .before .before .before .before .before .before .before .before .before .before .before .before .before .args .count) (c .before .before .before .before .before .before .before .before .before .before .before .before .before .args .k) (c .before .before .before .before .before .before .before .before .before .before .before .before .before .args .dest .now) _ (c .before .before .before .before .before .before .before .before .before .before .before .before .before .pre) _ _ (sym (judged-bytes (c .before .before .before)) ∙ ap paper (c .before .enum-told .given .1))
+write-accepted-requires c κs =
+    let s = c .before .before .before .before .before .before .before .before .before .before .before .before .before .before .before .before in
+    let a = s .args in
+    reader-accepts (a .text .now) (a .list .now) (a .count) (a .k) (a .dest .now) _ _ _ (s .pre) (read-bytes (c .before .before)) (rw (c .before .before .before .break-length .ensures, c .before .before .break-length2 .ensures) at (c .before .if1 .taken))
 
-returns-2 : tie.Need-returns-2
-returns-2 c = reader-refuses (c .before .before .before .before .before .before .before .before .before .before .before .before .before .args .text .now) (c .before .before .before .before .before .before .before .before .before .before .before .before .before .args .list .now) (c .before .before .before .before .before .before .before .before .before .before .before .before .before .args .count) (c .before .before .before .before .before .before .before .before .before .before .before .before .before .args .k) (c .before .before .before .before .before .before .before .before .before .before .before .before .before .args .dest .now) _ (c .before .before .before .before .before .before .before .before .before .before .before .before .before .pre) _ (sym (judged-bytes (c .before .before .before)) ∙ ap paper (c .before .answer .given .1))
+refuse-requires-2 : tie.Need-refuse-requires-2
+refuse-requires-2 c κs = search needs
+
+returns : tie.Need-returns
+returns c =
+    let s = c .before .before .before .before .before .before .before .before .before .before .before .before .before in
+    let a = s .args in
+    reader-refuses (a .text .now) (a .list .now) (a .count) (a .k) (a .dest .now) _ (s .pre .in-text) (sym (judged-bytes (c .before .before .before .before)) ∙ ap paper (c .before .before .answer .given .1)) _ (c .refuse .ensures)
 
 same-length : tie.Need-same-length
 same-length c = search needs
 
+returns-2 : tie.Need-returns-2
+returns-2 c = search needs
+
 returns-3 : tie.Need-returns-3
-returns-3 c = search needs
+returns-3 c =
+    let s = c .before .before .before .before .before .before .before .before .before .before .before .before .before .before .before .before in
+    let a = s .args in
+    read-otherwise (a .text .now) (a .list .now) (a .count) (a .k) (a .dest .now) _ _ _ (s .pre .in-text) (read-bytes (c .before .before)) (rw (c .before .before .before .break-length .ensures, c .before .before .break-length2 .ensures) at (c .before .if1 .left)) _ (c .refuse2 .ensures)
 
 pub write-joined-spec : {M : Type 1} → statement M
 write-joined-spec =
     tie.close
     (tie.spec
-    returns
     slice-aggregate-lay-lines
     lay-lines-requires
     sub-judge
@@ -64,8 +88,13 @@ write-joined-spec =
     part-judge-end
     judge-requires
     enum-known-answer
-    enum-told
+    refuse-requires
+    enum-known-answer-2
+    break-length-requires
+    break-length-requires-2
     write-accepted-requires
-    returns-2
+    refuse-requires-2
+    returns
     same-length
+    returns-2
     returns-3)

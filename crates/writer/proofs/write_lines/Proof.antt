@@ -1,24 +1,23 @@
--- `writer::write_lines` meets its contract: a stray break is refused, else the joined length is known. Assumes nothing.
-use mathlib.Core.Path.{sym, _∙_}
-use Rattle.writer.proofs.Writing.{none-stray, stray-found}
+-- `writer::write_lines` meets its contract: too many bytes are refused, else the joined length is known. Assumes nothing.
+use Rattle.writer.proofs.Writing.{too-many-bytes}
 use borrow.Author.Needs.{needs}
 use Rattle.writer.proofs.write_lines.Statement.{statement}
 use Rattle.writer.proofs.write_lines.Tie as tie
 
-measure-requires : tie.Need-measure-requires
-measure-requires c κs = search needs
+joined-length-requires : tie.Need-joined-length-requires
+joined-length-requires c κs = search needs
 
-enum-known-i : tie.Need-enum-known-i
-enum-known-i c = search needs
-
-enum-known-n : tie.Need-enum-known-n
-enum-known-n c = search needs
-
-write-joined-requires : tie.Need-write-joined-requires
-write-joined-requires c κs = none-stray (c .before .before .before .before .before .before .before .before .args .text .now) (c .before .before .before .before .before .before .before .before .args .list .now) (c .before .before .before .before .before .before .before .before .args .count) (c .before .before .before .before .before .before .before .before .args .k) (c .before .before .before .before .before .before .before .before .args .dest .now) _ (c .before .before .before .before .before .before .before .before .pre) (sym (c .before .before .n .given .1) ∙ c .before .before .before .before .measure .ensures)
+refuse-requires : tie.Need-refuse-requires
+refuse-requires c κs = search needs
 
 returns : tie.Need-returns
-returns c = stray-found (c .before .before .before .before .before .before .before .args .text .now) (c .before .before .before .before .before .before .before .args .list .now) (c .before .before .before .before .before .before .before .args .count) (c .before .before .before .before .before .before .before .args .k) (c .before .before .before .before .before .before .before .args .dest .now) _ _ (c .before .before .before .before .before .before .before .pre) (sym (c .before .i .given .1) ∙ c .before .before .before .measure .ensures)
+returns c =
+    let s = c .before .before .before .before .before .before in
+    let a = s .args in
+    too-many-bytes (a .text .now) (a .list .now) (a .count) (a .k) (a .dest .now) _ (s .pre) (c .before .before .joined-length .ensures) (c .before .if1 .taken) _ (c .refuse .ensures)
+
+write-joined-requires : tie.Need-write-joined-requires
+write-joined-requires c κs = search needs
 
 same-length : tie.Need-same-length
 same-length c = search needs
@@ -30,10 +29,9 @@ pub write-lines-spec : {M : Type 1} → statement M
 write-lines-spec =
     tie.close
     (tie.spec
-    measure-requires
-    enum-known-i
-    enum-known-n
-    write-joined-requires
+    joined-length-requires
+    refuse-requires
     returns
+    write-joined-requires
     same-length
     returns-2)

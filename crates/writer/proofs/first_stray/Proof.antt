@@ -1,26 +1,23 @@
--- `writer::measure` meets its contract: what lies before is clean, and its length with a break after each line is reckoned. Assumes nothing.
-use Rattle.writer.specs.declared.Measured.the-variants.{Length}
-use Rattle.writer.specs.Handing.{lineAt, measured}
+-- `writer::first_stray` meets its contract: what was not found before is found among the lines from here on. Assumes nothing.
+use Rattle.writer.specs.Handing.{lineAt, firstStray}
 use Rattle.sieve.proofs.Cutting.{break-length}
-use Rattle.writer.proofs.Handing.{still, strayFrom, breaksAll, from-start, all-breaks, line-short, stray-is, stray-none, stray-within, stray-here, stray-later, length-here, none-left}
+use Rattle.writer.proofs.Handing.{strayFrom, from-start, line-short, stray-is, stray-none, stray-within, stray-here, stray-later, no-stray-left}
 use Rattle.sieve.specs.Writing.{handed, strayBreak}
 use Rattle.sieve.specs.Places.{placed}
-use Rattle.sieve.specs.Lines.{breakBytes, joined}
+use Rattle.sieve.specs.Lines.{breakBytes}
 use Rattle.sieve.specs.Bytes.{Bytes}
 use lib.ListN.{length}
 use borrow.Author.Needs.{needs}
-use native.Mathlib.Nat.{zero-add}
 use mathlib.Core.Path.{_≡_, sym, ap, _∙_}
 use mathlib.Core.List.{List}
 use native.Mathlib.Omega.{arith}
 use Prim.Native.Nat.{_+_, _-_, _*_, _≤_}
-use Rattle.writer.proofs.measure.Statement.{statement}
-use Rattle.writer.proofs.measure.Tie as tie
+use Rattle.writer.proofs.first_stray.Statement.{statement}
+use Rattle.writer.proofs.first_stray.Tie as tie
 
 abbrev Inv-loop : tie.InvT-loop
 Inv-loop text list count k at₀ i₀ at i =
     (i ≤ count) × (at ≤ 65537 * i) × (strayBreak 1 (placed 0 k (handed text list count)) ≡ strayFrom text list count k i at)
-    × (length (joined k (handed text list count)) + length (breakBytes k) ≡ at + breaksAll k (still text list count i))
 
 abbrev μ-loop : tie.MeasureT-loop
 μ-loop text list count k at₀ i₀ at i = count - i
@@ -31,7 +28,6 @@ loop-holds c =
       omega arith,
       omega arith,
       ap (λ (ls : List Bytes). strayBreak 1 (placed 0 (a .k) ls)) (sym (from-start (a .text .now) (a .list .now) (a .count) (a .k))),
-      all-breaks (a .text .now) (a .list .now) (a .count) (a .k) (c .before .before .pre .1) ∙ sym (zero-add _),
     )
 
 handed-line-requires : tie.Need-handed-line-requires Inv-loop μ-loop
@@ -51,20 +47,20 @@ enum-known-j : tie.Need-enum-known-j Inv-loop μ-loop
 enum-known-j c = search needs
 
 add-t11 : tie.Need-add-t11 Inv-loop μ-loop
-add-t11 c = omega (arith, c .before .before .before .before .before .before .before .before .before .pre .2)
+add-t11 c = omega (arith, c .before .before .before .before .before .before .before .before .before .pre .1)
 
 add-t12 : tie.Need-add-t12 Inv-loop μ-loop
 add-t12 c =
     let l = c .before .before .before .before .before .before in
     omega (
       arith,
-      l .before .before .before .pre .2,
+      l .before .before .before .pre .1,
       in-hand (c .before .before .before),
       stray-within (c .before .before .before .before .handed-line .result .now) (c .before .j .given .0 .0) (stray-is _ _ (sym (c .before .j .given .1) ∙ c .before .before .before .stray-break .ensures)),
     )
 
 returns : tie.Need-returns Inv-loop μ-loop
-unfolding measured
+unfolding firstStray
 returns c =
     let l = c .before .before .before .before .before .before in
     let a = l .before .before .before .args in
@@ -77,7 +73,7 @@ enum-told c = search needs
 add-at : tie.Need-add-at Inv-loop μ-loop
 add-at c =
     let l = c .before .before .before .before .before in
-    omega (arith, l .before .before .before .pre .2, in-hand (c .before .before))
+    omega (arith, l .before .before .before .pre .1, in-hand (c .before .before))
 
 break-length-requires : tie.Need-break-length-requires Inv-loop μ-loop
 break-length-requires c κs = search needs
@@ -85,10 +81,10 @@ break-length-requires c κs = search needs
 add-at-2 : tie.Need-add-at-2 Inv-loop μ-loop
 add-at-2 c =
     let l = c .before .before .before .before .before .before in
-    omega (arith, l .before .before .before .pre .2, in-hand (c .before .before .before), c .break-length .ensures, break-length (l .before .before .before .args .k) .1)
+    omega (arith, l .before .before .before .pre .1, in-hand (c .before .before .before), c .break-length .ensures, break-length (l .before .before .before .args .k) .1)
 
 add-i : tie.Need-add-i Inv-loop μ-loop
-add-i c = omega (arith, c .before .before .before .before .before .before .before .before .before .pre .2)
+add-i c = omega (arith, c .before .before .before .before .before .before .before .before .before .pre .1)
 
 loop-less : tie.Need-loop-less Inv-loop μ-loop
 loop-less c = omega arith
@@ -103,29 +99,16 @@ loop-again c =
       omega (arith, c .before .before .before .before .before .loop-test .taken),
       omega (arith, in-hand (c .before .before .before), c .break-length .ensures, break-length (a .k) .1),
       l .loop .inv .2 ∙ stray-later (a .text .now) (a .list .now) (a .count) (a .k) (l .loop .i) (l .loop .at) (c .before .before .before .before .before .loop-test .taken) (rw line at clear) ∙ ap (strayFrom (a .text .now) (a .list .now) (a .count) (a .k) (l .loop .i + 1)) (sym onward),
-      omega (arith, onward, l .loop .inv .3, length-here (a .text .now) (a .list .now) (a .count) (a .k) (l .loop .i) (l .loop .at) (c .before .before .before .before .before .loop-test .taken)),
     )
 
-break-length-requires-2 : tie.Need-break-length-requires-2 Inv-loop μ-loop
-break-length-requires-2 c κs = search needs
-
-sub-t17 : tie.Need-sub-t17 Inv-loop μ-loop
-sub-t17 c =
-    let l = c .before .before in
-    let a = l .before .before .before .args in
-    omega (arith, c .break-length2 .ensures, l .loop .inv .3, none-left (a .text .now) (a .list .now) (a .count) (a .k) (l .loop .i) (l .loop .at) (c .before .loop-test .left) .1)
-
 returns-2 : tie.Need-returns-2 Inv-loop μ-loop
-unfolding measured
+unfolding firstStray
 returns-2 c =
-    let l = c .before .before in
-    let a = l .before .before .before .args in
-    let none-is = none-left (a .text .now) (a .list .now) (a .count) (a .k) (l .loop .i) (l .loop .at) (c .before .loop-test .left) in
-    let n : l .loop .at - c .break-length2 .result ≡ length (joined (a .k) (handed (a .text .now) (a .list .now) (a .count))) = omega (arith, c .break-length2 .ensures, l .loop .inv .3, none-is .1) in
-    rw (l .loop .inv .2, none-is .0) (ap Length n)
+    let a = c .before .before .before .before .args in
+    rw (c .before .loop .inv .2, no-stray-left (a .text .now) (a .list .now) (a .count) (a .k) (c .before .loop .i) (c .before .loop .at) (c .loop-test .left))
 
-pub measure-spec : {M : Type 1} → statement M
-measure-spec =
+pub first-stray-spec : {M : Type 1} → statement M
+first-stray-spec =
     tie.close
     (tie.spec
     Inv-loop
@@ -144,6 +127,4 @@ measure-spec =
     add-i
     loop-less
     loop-again
-    break-length-requires-2
-    sub-t17
     returns-2)
