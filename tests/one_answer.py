@@ -1,23 +1,19 @@
-"""Check that no public function of a library is without its proof of one answer.
+"""Check that no public function of a library is without its proof of one answer and two wrong programs.
 
 Public is what another crate can call: a `pub fn` of a library's lib.rt, or of a file that is
 declared there by `pub mod`. Each has an `ensures`; a theorem in its crate's proofs/OneAnswer.antt
 whose statement names it and no other function, in a file that names its contract; and a row in the
-table of docs/CLAIMS.md, which has no other rows. That the theorems are proved is for `rt` to say.
+table of docs/CLAIMS.md, which has no other rows and names two of its crate's must-fail edits. That
+the theorems are proved and the edits refused is for `rt` to say.
 Prints a line for each failure and at the end `N passed, M failed`.
 """
 
 import re
 import sys
-from pathlib import Path
 from typing import NamedTuple
 
+from claims import CLAIMS, CRATES, ROOT, section
 from stored import told
-
-ROOT = Path(__file__).resolve().parent.parent
-CRATES = ROOT / 'crates'
-CLAIMS = ROOT / 'docs' / 'CLAIMS.md'
-HEADING = '## One answer each\n'
 
 CRATE = re.compile(r'^(\w+):', re.MULTILINE)
 PUBLIC_MODULE = re.compile(r'^pub mod (\w+);', re.MULTILINE)
@@ -28,6 +24,7 @@ PUBLIC_FUNCTION = re.compile(r'^ *pub (?:[\w"]+ )*fn (\w+)(.*?)^ *(?:[{}]|$)',
 ENSURES = re.compile(r'^ *ensures\b', re.MULTILINE)
 THEOREM = re.compile(r'^pub (one-\S+) :(.*?)^\S', re.MULTILINE | re.DOTALL)
 NAMED_FUNCTION = re.compile(r'\bfn\.(\w+)\.')
+NAME = re.compile(r'`([^`]+)`')
 NAMED_CONTRACT = re.compile(r'\bfn\.(\w+)\.(?:Reads\.Learnt|clauses)\b')
 
 
@@ -44,9 +41,29 @@ class Function(NamedTuple):
         return 'one-' + self.name.replace('_', '-')
 
     @property
-    def row(self):
-        """What the table says of it: crate, function, theorem."""
+    def key(self):
+        """What a row of the table begins with, and its theorem."""
         return self.crate, self.name, self.theorem
+
+
+class Row(NamedTuple):
+    """A row of the table."""
+
+    crate: str
+    function: str
+    theorem: str
+    edits: list[str]
+
+    @property
+    def key(self):
+        """The function that it is about, as Function gives it."""
+        return self.crate, self.function, self.theorem
+
+    @property
+    def tried(self):
+        """The edits that are there, each once."""
+        folder = CRATES / self.crate / 'must-fail'
+        return {edit for edit in self.edits if (folder / f'{edit}.edit').exists()}
 
 
 def libraries():
@@ -81,12 +98,11 @@ def proof_text(crate):
 
 
 def table():
-    """The rows of the table, each as crate, function and theorem."""
-    section = CLAIMS.read_text('utf-8').partition(HEADING)[2].partition('\n## ')[0]
-    for line in section.splitlines():
+    """The rows of the table: crate, function, what its contract fixes, theorem, wrong programs."""
+    for line in section('One answer each').splitlines():
         if line.startswith('| `'):
-            cells = [cell.strip(' `') for cell in line.strip('|').split('|')]
-            yield cells[0], cells[1], cells[-1]
+            crate, function, _, theorem, edits = (NAME.findall(cell) for cell in line.split('|')[1:-1])
+            yield Row(*crate, *function, *theorem, edits)
 
 
 def checks_of_library(crate, rows):
@@ -101,7 +117,7 @@ def checks_of_library(crate, rows):
         named = NAMED_FUNCTION.findall(statements.get(function.theorem, ''))
         yield f'{name}: {function.theorem} names', {function.name}, set(named)
         yield f'{name}: its contract is named', True, function.name in contracts
-        yield f'{name}: rows in {CLAIMS.name}', 1, rows.count(function.row)
+        yield f'{name}: rows in {CLAIMS.name}', 1, [row.key for row in rows].count(function.key)
 
 
 def all_checks():
@@ -111,9 +127,11 @@ def all_checks():
     yield 'there are public functions', True, bool(functions)
     for crate in libraries():
         yield from checks_of_library(crate, rows)
-    known = [function.row for function in functions]
+    known = [function.key for function in functions]
     for row in rows:
-        yield f'the row {" ".join(row)} is about a public function', True, row in known
+        name = f'the row of {row.crate}::{row.function}'
+        yield f'{name} is about a public function', True, row.key in known
+        yield f'{name} names two edits of its crate', (2, 2), (len(row.edits), len(row.tried))
 
 
 if __name__ == '__main__':

@@ -1,0 +1,60 @@
+"""Check where the prover refused each must-fail edit, by what the last `rt ci` left in target/.
+
+An edit keeps the code's shape and changes its meaning. So what is refused first is a fact that it
+made false, and not a name or a field of a proof that it took away. Each lazy program in the table
+of docs/CLAIMS.md is refused first at the line that the table gives.
+Prints a line for each failure and at the end `N passed, M failed`.
+"""
+
+import re
+import sys
+
+from claims import CRATES, ROOT, section
+from stored import told
+
+LOGS = ROOT / 'target' / 'must-fail'
+
+# The prover says of a refusal where it stands, and what is wrong there.
+REFUSAL = re.compile(r'^(?:note: )?(?P<file>\S+?):(?P<line>\d+):\d+: (?:error: )?(?P<wrong>.*)', re.MULTILINE)
+ERROR = re.compile(r'^\S+:\d+:\d+: error: ', re.MULTILINE)
+NOT_A_FACT = re.compile(r'has no (?:field )?`|cannot be named|not in scope')
+ROW = re.compile(r'^\| [^|]+ \| `(?P<edit>[^`]+)` \| `(?P<place>[^`]+)`', re.MULTILINE)
+
+
+def edits():
+    """Each edit, as CRATE/EDIT."""
+    for file in sorted(CRATES.glob('*/must-fail/*.edit')):
+        yield f'{file.parent.parent.name}/{file.stem}'
+
+
+def first_refusal(edit):
+    """Where an edit was refused first, as FILE:LINE, and what was wrong there: the first error, or
+    the first note where the prover's own search found no proof."""
+    log = LOGS / edit / '.log'
+    text = log.read_text('utf-8') if log.exists() else ''
+    error = ERROR.search(text)
+    found = REFUSAL.search(text, error.start() if error else 0)
+    if found is None:
+        return 'nowhere', ''
+    return f'{found["file"].removeprefix(f"{log.parent}/")}:{found["line"]}', found['wrong']
+
+
+def lazy_programs():
+    """The edit and the place in each row of the table of lazy programs."""
+    return [(row['edit'], row['place']) for row in ROW.finditer(section('Lazy programs'))]
+
+
+def all_checks():
+    """The checks of every edit, and of every row of the table."""
+    for edit in edits():
+        place, wrong = first_refusal(edit)
+        yield f'{edit} is refused somewhere', True, place != 'nowhere'
+        yield f'{edit} is refused at a fact ({place}: {wrong[:120]})', None, NOT_A_FACT.search(wrong)
+    programs = lazy_programs()
+    yield 'there are lazy programs', True, bool(programs)
+    for edit, place in programs:
+        yield f'{edit} is refused first at', place, first_refusal(edit)[0]
+
+
+if __name__ == '__main__':
+    sys.exit(told(all_checks()))
