@@ -46,6 +46,10 @@ stray-three i (l ∷ ls) r h = go (firstSuch ofBreak (l .start) (l .text)) refl 
     go none e ih = ih (rw (e, strayBreak) at h)
     go (some at) e ih = let q : _≡_ {A = Option Refusal} (some (underAt 3 i at)) (some r) = rw (e, strayBreak) at h in let s : underAt 3 i at ≡ r = cc in rw (← s)
 
+-- the reader counts m lines and finds the break j: those that were handed over
+abbrev pub readAs : ℕ → Break → ℕ → Break → Bool
+readAs count k m j = eqb m count && eqb (length (breakBytes j)) (length (breakBytes k))
+
 -- breaks of one length are one break
 one-break : (j k : Break) → length (breakBytes j) ≡ length (breakBytes k) → j ≡ k
 one-break Lf Lf h = refl
@@ -142,34 +146,28 @@ module _ (text : Bytes) (list : List ℕ) (count : ℕ) (k : Break) (dest : Byte
       go none e = stopped _ q (passed joinedFindings (f .reached) e) (h e)
       go (some s) e = stopped joinedFindings (BadCharacter (s .line) (Option·getD (s .place) 0)) (f .reached) (e ∙ ap some (stray-three 1 _ s e))
 
-  reader-finds : (q : Fault) → verdict swiss B ≡ refused (paperFault q) → first (findings swiss B) ≡ some (paperFault q)
-  reader-finds q h = settled-refuses (billOf B) (first (findings swiss B)) (paperFault q) (sym (verdict-is swiss B) ∙ h)
-
   pub reader-refuses : (q : Fault) → InText text list count k dest → verdict swiss B ≡ refused (paperFault q)
       → (r : Written) → r ≡ refusal (firstStray text list count k) q → IsWritten text list count k dest r dest
-  reader-refuses q f h = refused-so q f (λ e. reader-finds q h)
+  reader-refuses q f h = refused-so q f (λ e. settled-refuses (billOf B) (first (findings swiss B)) (paperFault q) (sym (verdict-is swiss B) ∙ h))
 
   pub too-many-bytes : (n : ℕ) → InText text list count k dest → n ≡ length B → mostBytes < n
       → (r : Written) → r ≡ refusal (firstStray text list count k) TooManyBytes → IsWritten text list count k dest r dest
   too-many-bytes n f long h = reader-refuses TooManyBytes f (too-many B (λ z. absurd (omega arith)) (omega arith))
 
-  -- the count and the break that the reader finds, beside those of the lines
-
-  abbrev pub readAs : ℕ → Break → Bool
-  readAs m j = eqb m count && eqb (length (breakBytes j)) (length (breakBytes k))
-
-  pub read-otherwise : (m : ℕ) (j : Break) (q : Fault) → InText text list count k dest → verdict swiss B ≡ accepted m j → readAs m j ≡ false
+  -- where the reader counts other lines or finds another break, a line holds a break
+  pub read-otherwise : (m : ℕ) (j : Break) (q : Fault) → InText text list count k dest → verdict swiss B ≡ accepted m j → readAs count k m j ≡ false
       → (r : Written) → r ≡ refusal (firstStray text list count k) q → IsWritten text list count k dest r dest
-  read-otherwise m j q f h other =
-      let size = handed-length text list count in
-      refused-so q f
-      (λ e.
-      let (n, same) = unstray-counted swiss k (handed text list count) (omega (arith, f .enough)) e h in
-      let all : m ≡ count = sym n ∙ size in
-      let yes : readAs m j ≡ true = rw (all, ← same, eq-eqb count count refl, eq-eqb (length (breakBytes k)) (length (breakBytes k)) refl) in
-      absurd (true≢false (sym yes ∙ other)))
+  read-otherwise m j q f h other = refused-so q f (λ e. absurd (true≢false (sym (as-they-are e) ∙ other)))
+    where
+      as-they-are : strayBreak 1 (placed 0 k (handed text list count)) ≡ none → readAs count k m j ≡ true
+      as-they-are e =
+          let size = handed-length text list count in
+          let (n, same) = unstray-counted swiss k (handed text list count) (omega (arith, f .enough)) e h in
+          let all : m ≡ count = sym n ∙ size in
+          rw (all, ← same, eq-eqb count count refl, eq-eqb (length (breakBytes k)) (length (breakBytes k)) refl)
 
-  pub reader-accepts : (n m : ℕ) (j : Break) → Joined text list count k dest n → verdict swiss B ≡ accepted m j → readAs m j ≡ true → Readable text list count k dest n
+  -- else no line holds one
+  pub reader-accepts : (n m : ℕ) (j : Break) → Joined text list count k dest n → verdict swiss B ≡ accepted m j → readAs count k m j ≡ true → Readable text list count k dest n
   unfolding swiss
   reader-accepts n m j f h same =
       let (a, b) = and-eq-true-iff (eqb m count) _ .0 same in
