@@ -36,7 +36,8 @@ def first_refusal(edit):
     found = REFUSAL.search(text, error.start() if error else 0)
     if found is None:
         return 'nowhere', ''
-    return f'{found["file"].removeprefix(f"{log.parent}/")}:{found["line"]}', found['wrong']
+    file = found['file'].rpartition(f'/{edit}/')[2]  # below the copy of the crate that was edited
+    return f'{file}:{found["line"]}', found['wrong']
 
 
 def lazy_programs():
