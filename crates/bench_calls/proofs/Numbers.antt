@@ -18,22 +18,21 @@ use Rattle.sieve.specs.Bytes.{Bytes, within, firstSuch}
 use Rattle.sieve.specs.Lines.{billOf, ofBreak, joined}
 use Rattle.sieve.specs.Paper.{paperFault, paper, not-laid, paperWritten}
 use Rattle.sieve.specs.Places.{Placed, placed, listSize}
-use Rattle.sieve.specs.Reading.{noRoom, readOnto, readAnswer}
+use Rattle.sieve.specs.Reading.{noRoom, readOnto, readAnswer, IsRead}
 use Rattle.sieve.specs.Verdict.{Refusal, under, underAt, found, Verdict, accepted, refused, findings, first, settled, verdict}
-use Rattle.sieve.specs.Writing.{outside, spans, part, handed, outsideText, strayBreak, writeFindings, laidOnto, writeAnswer}
+use Rattle.sieve.specs.Writing.{outside, spans, part, handed, outsideText, strayBreak, writeFindings, laidOnto, writeAnswer, IsWritten}
 use Rattle.sieve.proofs.Findings.{first-nil, verdict-is, such-at}
 use Rattle.sieve.proofs.Placing.{length-placed}
 use Rattle.sieve.proofs.WriterPromises.{handed-length, laid-written, laid-accepted}
 use Rattle.swiss.specs.Swiss.{swiss}
-use Rattle.swiss.proofs.Latin.{lawful}
-use Rattle.judge.proofs.Numbers.{Low, low-first, low-found, low-line, line-count}
-use Rattle.reader.specs.Reading.{IsRead}
-use Rattle.writer.specs.Writing.{IsWritten}
+use Rattle.sieve.proofs.Latin.{lawful}
+use Rattle.sieve.proofs.Numbers.{Low, low-first, low-found}
+use Rattle.swiss.proofs.Numbers.{low-findings, low-line, line-count}
 use Rattle.bench_calls.specs.Packing.{mark}
 
 -- the reader
 
-module _ {p : Bytes} {list after : List ℕ} {q : Answer} (h : IsRead p list q after) where
+module _ {p : Bytes} {list after : List ℕ} {q : Answer} (h : IsRead swiss p list q after) where
   pub read-line : {f : Fault} → q ≡ Refused f → paperFault f .line < 1000
   unfolding readAnswer
   read-line {f} e = go (verdict swiss p) refl (ltb (length list) (listSize swiss)) (sym (h .answer) ∙ ap paper e)
@@ -63,9 +62,6 @@ low-nil r e = absurd (Option·none-ne-some r (sym first-nil ∙ e))
 
 low-room : (room wanted : ℕ) → Low (noRoom room wanted)
 low-room room wanted = low-found (ltb room wanted) (under 15 0) (lit≤ tt)
-
-low-findings : (p : Bytes) → Low (first (findings swiss p))
-low-findings p r e = low-line p r (verdict-is swiss p ∙ ap (settled (billOf p)) e)
 
 -- a stray break is in one of the lines
 stray-line : (i : ℕ) (ls : List Placed) (r : Refusal) → strayBreak i ls ≡ some r → r .line < i + length ls
@@ -106,7 +102,7 @@ module _ (text : Bytes) (list : List ℕ) (count : ℕ) (few : count < 1000) whe
         (low-first _ _ (low-findings _)
         (low-first _ _ (low-room room _) low-nil)))))
 
-module _ {text dest after : Bytes} {list : List ℕ} {count : ℕ} {k : Break} {w : Written} (h : IsWritten text list count k dest w after) where
+module _ {text dest after : Bytes} {list : List ℕ} {count : ℕ} {k : Break} {w : Written} (h : IsWritten swiss text list count k dest w after) where
   pub write-line : {f : Fault} → count < 1000 → w ≡ NotWritten f → paperFault f .line < 1000
   unfolding writeAnswer
   write-line {f} few e = go (first (writeFindings swiss text list count k (length dest))) (low-write text list count few k (length dest)) (sym (h .answer) ∙ ap paperWritten e)

@@ -9,7 +9,8 @@ use Rattle.sieve.specs.Bytes.{Bytes}
 use Rattle.sieve.specs.Paper.{paperFault}
 use Rattle.sieve.specs.Verdict.{Refusal, accepted, refused, verdict}
 use Rattle.swiss.specs.Swiss.{swiss}
-use Rattle.judge.proofs.Numbers.{low-line, low-number, line-count}
+use Rattle.sieve.proofs.Numbers.{low-number}
+use Rattle.swiss.proofs.Numbers.{low-line, line-count}
 use Rattle.capi.specs.Packing.{shift, packed}
 
 pub accepted-below : (p : Bytes) (n : ℕ) (k : Break) → verdict swiss p ≡ accepted n k → (packed (verdict swiss p) ≡ n) × (packed (verdict swiss p) < shift)

@@ -1,9 +1,9 @@
 // Calls for C: the verdict on a payload as one number, and the place of a line as one number.
-use judge::judge;
 use sieve::Answer;
 use sieve::line_of;
 use sieve::number_of;
 use swiss::limits::MOST_LINES;
+use swiss_judge::judge;
 ghost use mathlib.Core.Path.{_≡_};
 ghost use Prim.Native.Nat.{_≤_};
 ghost use lib.ListN.{length};

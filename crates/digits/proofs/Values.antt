@@ -7,8 +7,8 @@ use mathlib.Core.Bool.{Bool, true, false, cond, and-eq-true-iff}
 use mathlib.Core.Path.{_≡_, refl}
 use borrow.Author.Tests.{leb-true}
 use Rattle.sieve.specs.Bytes.{within}
-use Rattle.swiss.specs.Letters.{digit, capital, small}
-use Rattle.swiss.specs.Mod97.{value, onto}
+use Rattle.sieve.specs.Letters.{digit, capital, small}
+use Rattle.sieve.specs.Mod97.{value, onto}
 
 -- a case of two is within what each is within where it is taken
 case : (n : ℕ) (b : Bool) {x y : ℕ} → (b ≡ true → x ≤ n) → y ≤ n → cond b x y ≤ n

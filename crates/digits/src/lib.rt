@@ -2,9 +2,9 @@
 ghost use mathlib.Core.Path.{_≡_};
 ghost use Prim.Native.Nat.{_+_, _-_, _%_, _^_, _≤_, _<_};
 ghost use lib.ListN.{length, getD};
-ghost use Rattle.swiss.specs.Letters.{digit};
-ghost use Rattle.swiss.specs.Mod97.{value, onto, number, remainder97, checks97};
-ghost use Rattle.swiss.specs.Mod10.{nextCarry, checkDigit, checks10};
+ghost use Rattle.sieve.specs.Letters.{digit};
+ghost use Rattle.sieve.specs.Mod97.{value, onto, number, remainder97, checks97};
+ghost use Rattle.sieve.specs.Mod10.{nextCarry, checkDigit, checks10};
 
 // One of 0-9.
 fn is_digit(x: u8) -> bool

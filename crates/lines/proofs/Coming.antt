@@ -16,8 +16,8 @@ use Rattle.sieve.specs.Lines.{breakBytes, cut, breaksOf, kind}
 use Rattle.sieve.specs.Characters.{breakWidth}
 use Rattle.sieve.specs.Lawful.{Plain, no-more, one-more}
 use Rattle.sieve.specs.Places.{entries}
-use Rattle.swiss.specs.Latin.{inOne, latin}
-use Rattle.swiss.proofs.Latin.{lawful}
+use Rattle.sieve.specs.Latin.{inOne, latin}
+use Rattle.sieve.proofs.Latin.{lawful}
 use Rattle.runs.proofs.ByteByByte.{next}
 use Rattle.text.specs.declared.LineAt.{LineAt}
 use Rattle.text.specs.Results.{IsLineAt}

@@ -11,8 +11,7 @@ use Rattle.sieve.specs.declared.Break.the-variants.{Lf, CrLf}
 use Rattle.sieve.specs.Bytes.{Bytes, firstSuch}
 use Rattle.sieve.specs.Lines.{cut, breaksOf, kind, sameBreak}
 use Rattle.sieve.specs.Characters.{badPlace, lineFeeds}
-use Rattle.swiss.specs.Latin.{latin}
-use Rattle.swiss.specs.Limits.{mostLines}
+use Rattle.sieve.specs.Latin.{latin}
 use Rattle.lines.specs.declared.Walked.{Walked}
 use Rattle.lines.specs.declared.Walked.the-variants.{Clean, Bad}
 use Rattle.lines.specs.declared.Parted.{Parted}
@@ -20,7 +19,7 @@ use Rattle.lines.specs.declared.Parted.the-variants.{Alike, Unlike}
 use Rattle.lines.specs.declared.Kinds.{Kinds}
 use Rattle.lines.specs.declared.Came.{Came}
 use Rattle.lines.specs.declared.Told.{Told}
-use Rattle.lines.specs.Listed.{listed, listedOf, Filled}
+use Rattle.lines.specs.Listed.{capacity, listed, listedOf, Filled}
 
 -- clean, or the line (1 + LF bytes before) and the place of the first bad byte
 abbrev pub walked : Bytes → Option ℕ → Walked
@@ -62,7 +61,7 @@ partedBy k n = cond (eqb (k .unlike) 0) (Alike (ofWidth (k .first)) n) (Unlike (
 
 -- a list in which a line is noted behind n others, if it is among those that are listed
 abbrev pub noted : List ℕ → ℕ → ℕ → ℕ → List ℕ
-noted l n start bytes = cond (ltb n mostLines && leb start greatest && leb bytes greatest) (set (set l (2 * n) start) (2 * n + 1) bytes) l
+noted l n start bytes = cond (ltb n capacity && leb start greatest && leb bytes greatest) (set (set l (2 * n) start) (2 * n + 1) bytes) l
 
 -- the walk's end: what it found; and where nothing is bad, how the lines are parted, and the list of all but the last
 pub record IsCame (s : Bytes) (r : Came) : Type 0 where

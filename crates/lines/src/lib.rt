@@ -1,6 +1,5 @@
 // The walk over a payload: its characters, its breaks, and where its lines lie.
 use sieve::Break;
-use swiss::limits::MOST_LINES;
 use text::break_width;
 use text::in_one;
 use text::width;
@@ -10,9 +9,12 @@ ghost use Prim.Native.Nat.{_≤_};
 ghost use lib.Dec.{leb};
 ghost use lib.ListN.{length, replicate};
 ghost use Rattle.sieve.specs.Characters.{badPlace};
-ghost use Rattle.swiss.specs.Latin.{latin};
+ghost use Rattle.sieve.specs.Latin.{latin};
 ghost use Rattle.lines.specs.Listed.{listed, listedOf, Filled};
 ghost use Rattle.lines.specs.Walking.{greatest, ofWidth, partedBy, noted, heldBy, IsCame, IsTold};
+
+// How many lines the list has room for.
+const CAPACITY: usize = 34;
 
 // The greatest number of 16 bits.
 const GREATEST: usize = 65535;
@@ -83,7 +85,7 @@ fn note(places: &mut [u16], n: usize, start: usize, bytes: usize)
     requires { ⌜ length (now places) ≡ 68 ⌝ }
     ensures { λ _. ⌜ now (places .exit) ≡ noted (now (places .entry)) n start bytes ⌝ }
 {
-    if (n < MOST_LINES) & (start <= GREATEST) & (bytes <= GREATEST) {
+    if (n < CAPACITY) & (start <= GREATEST) & (bytes <= GREATEST) {
         places[2 * n] = start as u16;
         places[2 * n + 1] = bytes as u16;
     }
@@ -160,7 +162,7 @@ fn list_absent(s: &[u8], noted: [u16; 68], n: usize) -> [u16; 68]
     let mut places = noted;
     let end = s.len();
     let mut i = n;
-    while i < MOST_LINES {
+    while i < CAPACITY {
         places[2 * i] = end as u16;
         places[2 * i + 1] = 0;
         i += 1;

@@ -17,15 +17,15 @@ use Rattle.sieve.specs.Writing.{handed}
 use Rattle.sieve.proofs.PaperLosesNothing.{one-answer}
 use Rattle.sieve.proofs.ReaderPromises.{accepted-reads, refused-reads, bill-reads}
 use Rattle.swiss.specs.Swiss.{swiss}
-use Rattle.swiss.proofs.Latin.{lawful}
-use Rattle.reader.specs.Reading.{IsRead}
+use Rattle.sieve.proofs.Latin.{lawful}
+use Rattle.sieve.specs.Reading.{IsRead}
 
 -- one answer, and one content of the list
-pub one-reading : (p : Bytes) (list : List ℕ) (q r : Answer) (a b : List ℕ) → IsRead p list q a → IsRead p list r b → (q ≡ r) × (a ≡ b)
+pub one-reading : (p : Bytes) (list : List ℕ) (q r : Answer) (a b : List ℕ) → IsRead swiss p list q a → IsRead swiss p list r b → (q ≡ r) × (a ≡ b)
 one-reading p list q r a b h k = (one-answer q r (h .answer ∙ sym (k .answer)), h .lent ∙ sym (k .lent))
 
 -- given room, what is accepted is a bill that keeps every rule and is written as those bytes, and the places cut out its lines
-pub accepted-is-bill : (p : Bytes) (list after : List ℕ) (n : ℕ) (k : Break) → 68 ≤ length list → IsRead p list (Accepted n k) after
+pub accepted-is-bill : (p : Bytes) (list after : List ℕ) (n : ℕ) (k : Break) → 68 ≤ length list → IsRead swiss p list (Accepted n k) after
     → (b : Bill) × Is swiss p n k b × (handed p after n ≡ b .lines) × (drop 68 after ≡ drop 68 list)
 unfolding swiss
 accepted-is-bill p list after n k room h =
@@ -33,12 +33,12 @@ accepted-is-bill p list after n k room h =
     (r .bill, r .is, rw (h .lent) (r .cut-out), rw (h .lent) (r .rest))
 
 -- every bill that keeps the rules is accepted, with its line count and its break
-pub bill-is-accepted : (b : Bill) (list after : List ℕ) (r : Answer) → 68 ≤ length list → Keeps swiss b → IsRead (written b) list r after → r ≡ Accepted (length (b .lines)) (b .break)
+pub bill-is-accepted : (b : Bill) (list after : List ℕ) (r : Answer) → 68 ≤ length list → Keeps swiss b → IsRead swiss (written b) list r after → r ≡ Accepted (length (b .lines)) (b .break)
 unfolding swiss
 bill-is-accepted b list after r room h k = one-answer r _ (k .answer ∙ bill-reads swiss (λ ls. lawful) (lit≤ tt) b list room h)
 
 -- any other payload is refused under the earliest rule that it breaks, and no number of the list changes
-pub refused-is-earliest : (p : Bytes) (list after : List ℕ) (f : Fault) → 68 ≤ length list → IsRead p list (Refused f) after → Earliest swiss p (paperFault f) × (after ≡ list)
+pub refused-is-earliest : (p : Bytes) (list after : List ℕ) (f : Fault) → 68 ≤ length list → IsRead swiss p list (Refused f) after → Earliest swiss p (paperFault f) × (after ≡ list)
 unfolding swiss
 refused-is-earliest p list after f room h =
     let (e, l) = refused-reads swiss (λ ls. lawful) (lit≤ tt) p list room (paperFault f) (sym (h .answer)) in

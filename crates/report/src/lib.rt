@@ -1,11 +1,11 @@
 // The line that the program writes of a payload: what the reader answers.
-use judge::judge;
 use runs::lay;
 use sieve::Answer;
 use sieve::Break;
 use sieve::Fault;
 use sieve::line_of;
 use sieve::number_of;
+use swiss_judge::judge;
 ghost use mathlib.Core.List.{_++_};
 ghost use mathlib.Core.Path.{_≡_};
 ghost use Prim.Native.Nat.{_+_, _≤_, _<_};

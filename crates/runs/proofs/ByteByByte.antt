@@ -14,11 +14,6 @@ use Rattle.sieve.specs.Bytes.{Bytes, same}
 pub next : (s : Bytes) (i : ℕ) → i < length s → drop i s ≡ getD s i 0 ∷ drop (i + 1) s
 next s i h = rw (add-one, drop-cons s i 0)
 
--- one of two is within what both are within
-pub at-most : (n : ℕ) (b : Bool) (x y : ℕ) → x ≤ n → y ≤ n → cond b x y ≤ n
-at-most n true x y h k = h
-at-most n false x y h k = k
-
 -- two runs of bytes are the same where the next bytes are, and those after them; runs of other lengths never are
 module _ (a b : Bytes) (i : ℕ) where
   pub same-next : i < length a → i < length b → same (drop i a) (drop i b) ≡ eqb (getD a i 0) (getD b i 0) && same (drop (i + 1) a) (drop (i + 1) b)

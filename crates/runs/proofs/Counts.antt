@@ -5,7 +5,7 @@ use mathlib.Core.List.{[], _∷_}
 use lib.ListN.{length}
 use Rattle.sieve.specs.Bytes.{Bytes, within}
 use Rattle.sieve.specs.Characters.{characters}
-use Rattle.runs.proofs.ByteByByte.{at-most}
+use Rattle.sieve.proofs.LineFeeds.{at-most}
 
 -- a byte counts for at most one
 pub characters-few : (s : Bytes) → characters s ≤ length s

@@ -2,7 +2,7 @@
 use Prim.Native.Nat.{ℕ}
 use mathlib.Core.Bool.{Bool}
 use lib.Dec.{eqb}
-use Rattle.swiss.specs.Letters.{digit, capital, digitOrCapital, alphanumeric}
+use Rattle.sieve.specs.Letters.{digit, capital, digitOrCapital, alphanumeric}
 use Rattle.runs.specs.declared.Kind.{Kind}
 use Rattle.runs.specs.declared.Kind.the-variants.{Digit, Capital, DigitOrCapital, Alphanumeric, Zero}
 

@@ -1,13 +1,17 @@
 pub mod Heads
 pub mod Likeness
+pub mod Latin
+pub mod LineFeeds
 pub mod Cutting
 pub mod Widths
 pub mod Walking
+pub mod Firsts
 pub mod Findings
 pub mod Accepts
 pub mod Earliest
 pub mod Placing
 pub mod DemandThree
+pub mod Numbers
 pub mod PaperLosesNothing
 pub mod ReaderPromises
 pub mod Strays

@@ -1,7 +1,12 @@
 pub mod Bytes
+pub mod Letters
+pub mod Mod97
+pub mod Mod10
 pub mod Lines
 pub mod Characters
+pub mod Latin
 pub mod Rules
+pub mod Kinds
 pub mod Verdict
 pub mod Paper
 pub mod Places
@@ -11,4 +16,6 @@ pub mod Lawful
 pub mod Keeps
 pub mod Breaks
 pub mod Demand
+pub mod Cases
+pub mod Examples
 pub mod OneAnswer

@@ -1,3 +1,3 @@
-pub mod Latin
 pub mod DemandThree
+pub mod Numbers
 pub mod LazyVerdicts

@@ -8,11 +8,12 @@ use Rattle.sieve.specs.Bytes.{Bytes, ascii, firstSuch}
 use Rattle.sieve.specs.Lines.{breakBytes, joined, cut, billOf}
 use Rattle.sieve.specs.Characters.{breakWidth, passes, walk, badPlace, characters, lineFeeds}
 use Rattle.sieve.specs.Verdict.{under, underAt, accepted, refused, findings, first, verdict}
-use Rattle.swiss.specs.Latin.{latin}
-use Rattle.swiss.specs.Mod97.{number, remainder97}
-use Rattle.swiss.specs.Mod10.{carry, checkDigit}
+use Rattle.sieve.specs.Latin.{latin}
+use Rattle.sieve.specs.Mod97.{number, remainder97}
+use Rattle.sieve.specs.Mod10.{carry, checkDigit}
 use Rattle.swiss.specs.Swiss.{rules, swiss}
-use Rattle.swiss.specs.Notation.{lines, B, put, putBytes, times, Case, case, right}
+use Rattle.sieve.specs.Cases.{lines, put, putBytes, times, Case, case, right}
+use Rattle.swiss.specs.Base.{B}
 
 -- lines that are accepted with LF, and lines that are refused
 abbrev good : List Bytes → Case
@@ -184,6 +185,6 @@ second =
     ∷ bad 12 28 (putBytes 30 (times 137 umlaut) qr ++ lines "//S1")
     ∷ []
 
-pub the-second-table : T (right second)
+pub the-second-table : T (right swiss second)
 unfolding second right verdict swiss rules latin billOf cut breakWidth passes walk badPlace characters lineFeeds firstSuch findings first number remainder97 carry checkDigit flatten
 the-second-table = tt

@@ -6,11 +6,11 @@ use lib.Dec.{ltb}
 use Rattle.sieve.specs.Bytes.{Bytes}
 use Rattle.sieve.specs.Characters.{characters}
 use Rattle.sieve.specs.Rules.{Rule, Layout, When, line, isEmpty, is, has, isLast, always, never, unless}
-use Rattle.swiss.specs.Latin.{latin}
-use Rattle.swiss.specs.Mod97.{checks97}
-use Rattle.swiss.specs.Mod10.{checks10}
+use Rattle.sieve.specs.Latin.{latin}
+use Rattle.sieve.specs.Mod97.{checks97}
+use Rattle.sieve.specs.Mod10.{checks10}
 use Rattle.swiss.specs.Limits.{mostBytes, fewestLines, mostLines, nameMost, streetMost, houseNumberMost, postcodeMost, townMost, amountMost, messageMost, billingMost, togetherMost, procedureMost, qrType, version, coding, trailer, structured, francs, euros, qrReference, creditorReference, noReference}
-use Rattle.swiss.specs.Kinds.{fixed, empty, filled, atMost, formed, checked}
+use Rattle.sieve.specs.Kinds.{fixed, empty, filled, atMost, formed, checked}
 use Rattle.swiss.specs.Forms.{iban, qrIban, country, amount, billing, qrr, scor}
 
 -- lines 1 to 3

@@ -5,7 +5,7 @@ ghost use lib.ListN.{length, drop, getD};
 ghost use Rattle.sieve.specs.Bytes.{firstSuch};
 ghost use Rattle.sieve.specs.Lines.{breakBytes, ofBreak};
 ghost use Rattle.sieve.specs.Characters.{breakWidth};
-ghost use Rattle.swiss.specs.Latin.{inOne, inTwo, inThree, latin};
+ghost use Rattle.sieve.specs.Latin.{inOne, inTwo, inThree, latin};
 ghost use Rattle.text.specs.LinesIn.{lineOf};
 ghost use Rattle.text.specs.Results.{IsLineAt, IsPlaceOf, strayAs};
 

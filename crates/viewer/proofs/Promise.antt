@@ -17,7 +17,7 @@ use Rattle.sieve.specs.Verdict.{Refusal, refused, verdict}
 use Rattle.sieve.specs.Demand.{Is}
 use Rattle.sieve.proofs.Accepts.{read-back}
 use Rattle.swiss.specs.Swiss.{swiss}
-use Rattle.swiss.proofs.Latin.{lawful}
+use Rattle.sieve.proofs.Latin.{lawful}
 use Rattle.swiss.proofs.DemandThree.{swiss-demand-three}
 use Rattle.text.specs.declared.LineAt.{LineAt}
 use Rattle.text.specs.Results.{IsLineAt}

@@ -1,6 +1,6 @@
 // A viewer: it keeps hold of a payload, and hands out line after line.
-use judge::judge;
 use sieve::Answer;
+use swiss_judge::judge;
 use text::line_at;
 ghost use mathlib.Core.Path.{_≡_};
 ghost use Rattle.viewer.specs.View.{isDone, lineFrom, nextFrom, standing};

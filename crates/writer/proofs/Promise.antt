@@ -18,12 +18,12 @@ use Rattle.sieve.specs.Writing.{spans, handed}
 use Rattle.sieve.proofs.PaperLosesNothing.{one-written}
 use Rattle.sieve.proofs.WriterPromises.{handedBill, NoneOutside, laid-written, laid-accepted, refused-unchanged, bill-laid, round-trip}
 use Rattle.swiss.specs.Swiss.{swiss}
-use Rattle.swiss.proofs.Latin.{lawful}
-use Rattle.writer.specs.Writing.{IsWritten}
+use Rattle.sieve.proofs.Latin.{lawful}
+use Rattle.sieve.specs.Writing.{IsWritten}
 
 -- one answer, and one content of the destination
 pub one-writing : (text : Bytes) (list : List ℕ) (count : ℕ) (k : Break) (dest : Bytes) (q r : Written) (a b : Bytes)
-    → IsWritten text list count k dest q a → IsWritten text list count k dest r b → (q ≡ r) × (a ≡ b)
+    → IsWritten swiss text list count k dest q a → IsWritten swiss text list count k dest r b → (q ≡ r) × (a ≡ b)
 one-writing text list count k dest q r a b h j = (one-written q r (h .answer ∙ sym (j .answer)), h .lent ∙ sym (j .lent))
 
 module _ (text : Bytes) (list : List ℕ) (count : ℕ) (k : Break) (dest after : Bytes) where
@@ -31,21 +31,21 @@ module _ (text : Bytes) (list : List ℕ) (count : ℕ) (k : Break) (dest after 
   b = handedBill text list count k
 
   -- what is written is the bill of those lines and that break; what lies behind it stays
-  pub lines-are-written : (n : ℕ) → IsWritten text list count k dest (Length n) after → (n ≡ length (written b)) × (after ≡ written b ++ drop (length (written b)) dest)
+  pub lines-are-written : (n : ℕ) → IsWritten swiss text list count k dest (Length n) after → (n ≡ length (written b)) × (after ≡ written b ++ drop (length (written b)) dest)
   lines-are-written n h = let (e, l) = laid-written swiss text list count k dest n (sym (h .answer)) in (e, h .lent ∙ l)
 
   -- the reader accepts it and gives back the same lines and break: the bill keeps every rule
-  pub written-is-accepted : (n : ℕ) → IsWritten text list count k dest (Length n) after → (verdict swiss (written b) ≡ accepted count k) × (billOf (written b) ≡ b) × Keeps swiss b
+  pub written-is-accepted : (n : ℕ) → IsWritten swiss text list count k dest (Length n) after → (verdict swiss (written b) ≡ accepted count k) × (billOf (written b) ≡ b) × Keeps swiss b
   unfolding swiss
   written-is-accepted n h = laid-accepted swiss text list count k dest (λ ls. lawful) (lit≤ tt) n (sym (h .answer))
 
   -- a refusal changes nothing
-  pub refusal-changes-nothing : (f : Fault) → IsWritten text list count k dest (Refused f) after → after ≡ dest
+  pub refusal-changes-nothing : (f : Fault) → IsWritten swiss text list count k dest (Refused f) after → after ≡ dest
   refusal-changes-nothing f h = h .lent ∙ refused-unchanged swiss text list count k dest (paperFault f) (sym (h .answer))
 
 -- a bill that keeps every rule, whose lines lie anywhere in a text by any places, is written, given room
 pub bill-is-written : (b : Bill) (text : Bytes) (list : List ℕ) (dest after : Bytes) (r : Written) → Keeps swiss b → 68 ≤ length list → handed text list (length (b .lines)) ≡ b .lines
-    → NoneOutside (length text) (spans (length (b .lines)) list) → length (written b) ≤ length dest → IsWritten text list (length (b .lines)) (b .break) dest r after
+    → NoneOutside (length text) (spans (length (b .lines)) list) → length (written b) ≤ length dest → IsWritten swiss text list (length (b .lines)) (b .break) dest r after
     → (r ≡ Length (length (written b))) × (after ≡ written b ++ drop (length (written b)) dest)
 unfolding swiss
 bill-is-written b text list dest after r keeps size lines inside room h =
@@ -54,7 +54,7 @@ bill-is-written b text list dest after r keeps size lines inside room h =
 
 -- round trip: an accepted payload, with its own places, count and break, gives the payload again, given room
 pub payload-again : (p : Bytes) (n : ℕ) (k : Break) (rest : List ℕ) (dest after : Bytes) (r : Written) → verdict swiss p ≡ accepted n k → length p ≤ length dest
-    → IsWritten p (placesOf swiss (billOf p) ++ rest) n k dest r after → (r ≡ Length (length p)) × (after ≡ p ++ drop (length p) dest)
+    → IsWritten swiss p (placesOf swiss (billOf p) ++ rest) n k dest r after → (r ≡ Length (length p)) × (after ≡ p ++ drop (length p) dest)
 unfolding swiss
 payload-again p n k rest dest after r h room w =
     let e = round-trip swiss (λ ls. lawful) (lit≤ tt) p n k rest dest h room in

@@ -23,17 +23,17 @@ use Rattle.sieve.specs.Verdict.{Refusal, under, underAt, accepted, refused, fin
 use Rattle.sieve.specs.Paper.{paperFault}
 use Rattle.sieve.specs.Places.{Placed, placed}
 use Rattle.sieve.specs.Reading.{noRoom}
-use Rattle.sieve.specs.Writing.{spans, handed, outsideText, strayBreak, writeFindings, writeAnswer}
+use Rattle.sieve.specs.Writing.{spans, handed, outsideText, strayBreak, writeFindings, writeAnswer, IsWritten}
 use Rattle.sieve.proofs.Accepts.{within-both}
 use Rattle.sieve.proofs.Findings.{first-nil, settled-accepts, settled-refuses, verdict-is}
 use Rattle.sieve.proofs.WriterPromises.{handed-length, unstray-counted, counted-unstray}
 use Rattle.swiss.specs.Limits.{mostBytes, fewestLines, mostLines}
 use Rattle.swiss.specs.Swiss.{swiss}
-use Rattle.swiss.proofs.Latin.{lawful}
-use Rattle.judge.proofs.Stages.{too-many}
+use Rattle.sieve.proofs.Latin.{lawful}
+use Rattle.swiss_judge.proofs.Stages.{too-many}
 use Rattle.writer.specs.declared.Outside.the-variants.{Nowhere, At}
 use Rattle.writer.specs.Handing.{outsideAs, firstOutside, strayAs, firstStray, refusal}
-use Rattle.writer.specs.Writing.{IsWritten, bytes, Reached, InText, Joined, Readable}
+use Rattle.writer.specs.Writing.{bytes, Reached, InText, Joined, Readable}
 use Rattle.writer.proofs.Handing.{all-inside}
 
 -- a stray break is refused under 3, with the byte's place
@@ -68,7 +68,7 @@ module _ (text : Bytes) (list : List ℕ) (count : ℕ) (k : Break) (dest : Byte
   unfolding first
   passed os h e = h ∙ rw (e, first)
 
-  stopped : {o : Option Refusal} (os : List (Option Refusal)) (f : Fault) → H (o ∷ os) → o ≡ some (paperFault f) → IsWritten text list count k dest (Refused f) dest
+  stopped : {o : Option Refusal} (os : List (Option Refusal)) (f : Fault) → H (o ∷ os) → o ≡ some (paperFault f) → IsWritten swiss text list count k dest (Refused f) dest
   unfolding first writeAnswer
   stopped os f h e =
       let found : first (writeFindings swiss text list count k (length dest)) ≡ some (paperFault f) = h ∙ rw (e, first) in
@@ -94,7 +94,7 @@ module _ (text : Bytes) (list : List ℕ) (count : ℕ) (k : Break) (dest : Byte
 
   -- the list
 
-  pub short-list : length list < 68 → IsWritten text list count k dest (Refused NoRoom) dest
+  pub short-list : length list < 68 → IsWritten swiss text list count k dest (Refused NoRoom) dest
   short-list h = stopped countFindings NoRoom all-findings (rw (lt-ltb (length list) 68 h))
 
   module _ (size : 68 ≤ length list) where
@@ -103,7 +103,7 @@ module _ (text : Bytes) (list : List ℕ) (count : ℕ) (k : Break) (dest : Byte
 
     -- the count
 
-    pub wrong-count : within fewestLines mostLines count ≡ false → IsWritten text list count k dest (Refused (LineCount count)) dest
+    pub wrong-count : within fewestLines mostLines count ≡ false → IsWritten swiss text list count k dest (Refused (LineCount count)) dest
     wrong-count h = stopped placeFindings (LineCount count) counted (rw h)
 
     module _ (good : within fewestLines mostLines count ≡ true) where
@@ -112,11 +112,11 @@ module _ (text : Bytes) (list : List ℕ) (count : ℕ) (k : Break) (dest : Byte
 
       -- the places
 
-      pub place-outside : (i : ℕ) → At i ≡ outsideAs (firstOutside text list count) → IsWritten text list count k dest (Refused (OutsideText i)) dest
+      pub place-outside : (i : ℕ) → At i ≡ outsideAs (firstOutside text list count) → IsWritten swiss text list count k dest (Refused (OutsideText i)) dest
       unfolding firstOutside
       place-outside i h = go (firstOutside text list count) refl h
         where
-          go : (o : Option ℕ) → firstOutside text list count ≡ o → At i ≡ outsideAs o → IsWritten text list count k dest (Refused (OutsideText i)) dest
+          go : (o : Option ℕ) → firstOutside text list count ≡ o → At i ≡ outsideAs o → IsWritten swiss text list count k dest (Refused (OutsideText i)) dest
           go none e q = let z : _≡_ {A = ℕ} 0 1 = cc in absurd (omega arith)
           go (some j) e q = let same : i ≡ j = cc in stopped lineFindings (OutsideText i) at-places (rw (e, same))
 
@@ -138,25 +138,25 @@ module _ (text : Bytes) (list : List ℕ) (count : ℕ) (k : Break) (dest : Byte
   -- a refusal: a stray break, or else what the reader finds in the joined bytes
 
   refused-so : (q : Fault) → InText text list count k dest → (strayBreak 1 (placed 0 k (handed text list count)) ≡ none → first (findings swiss B) ≡ some (paperFault q))
-      → (r : Written) → r ≡ refusal (firstStray text list count k) q → IsWritten text list count k dest r dest
+      → (r : Written) → r ≡ refusal (firstStray text list count k) q → IsWritten swiss text list count k dest r dest
   unfolding firstStray
   refused-so q f h r is = rw is (go (strayBreak 1 (placed 0 k (handed text list count))) refl)
     where
-      go : (o : Option Refusal) → strayBreak 1 (placed 0 k (handed text list count)) ≡ o → IsWritten text list count k dest (refusal (strayAs o) q) dest
+      go : (o : Option Refusal) → strayBreak 1 (placed 0 k (handed text list count)) ≡ o → IsWritten swiss text list count k dest (refusal (strayAs o) q) dest
       go none e = stopped _ q (passed joinedFindings (f .reached) e) (h e)
       go (some s) e = stopped joinedFindings (BadCharacter (s .line) (Option·getD (s .place) 0)) (f .reached) (e ∙ ap some (stray-three 1 _ s e))
 
   pub reader-refuses : (q : Fault) → InText text list count k dest → verdict swiss B ≡ refused (paperFault q)
-      → (r : Written) → r ≡ refusal (firstStray text list count k) q → IsWritten text list count k dest r dest
+      → (r : Written) → r ≡ refusal (firstStray text list count k) q → IsWritten swiss text list count k dest r dest
   reader-refuses q f h = refused-so q f (λ e. settled-refuses (billOf B) (first (findings swiss B)) (paperFault q) (sym (verdict-is swiss B) ∙ h))
 
   pub too-many-bytes : (n : ℕ) → InText text list count k dest → n ≡ length B → mostBytes < n
-      → (r : Written) → r ≡ refusal (firstStray text list count k) TooManyBytes → IsWritten text list count k dest r dest
+      → (r : Written) → r ≡ refusal (firstStray text list count k) TooManyBytes → IsWritten swiss text list count k dest r dest
   too-many-bytes n f long h = reader-refuses TooManyBytes f (too-many B (λ z. absurd (omega arith)) (omega arith))
 
   -- where the reader counts other lines or finds another break, a line holds a break
   pub read-otherwise : (m : ℕ) (j : Break) (q : Fault) → InText text list count k dest → verdict swiss B ≡ accepted m j → readAs count k m j ≡ false
-      → (r : Written) → r ≡ refusal (firstStray text list count k) q → IsWritten text list count k dest r dest
+      → (r : Written) → r ≡ refusal (firstStray text list count k) q → IsWritten swiss text list count k dest r dest
   read-otherwise m j q f h other = refused-so q f (λ e. absurd (true≢false (sym (as-they-are e) ∙ other)))
     where
       as-they-are : strayBreak 1 (placed 0 k (handed text list count)) ≡ none → readAs count k m j ≡ true
@@ -182,10 +182,10 @@ module _ (text : Bytes) (list : List ℕ) (count : ℕ) (k : Break) (dest : Byte
   -- room
 
   module _ (n : ℕ) (f : Readable text list count k dest n) where
-    pub too-short : length dest < n → IsWritten text list count k dest (Refused NoRoom) dest
+    pub too-short : length dest < n → IsWritten swiss text list count k dest (Refused NoRoom) dest
     too-short h = stopped [] NoRoom (f .reached) (rw (lt-ltb (length dest) (length B) (omega (arith, f .bytes-are))))
 
-    pub room-for-all : n ≤ length dest → (after : Bytes) → after ≡ B ++ drop (length B) dest → IsWritten text list count k dest (Length n) after
+    pub room-for-all : n ≤ length dest → (after : Bytes) → after ≡ B ++ drop (length B) dest → IsWritten swiss text list count k dest (Length n) after
     unfolding writeAnswer
     room-for-all h after is =
         let nothing : first (writeFindings swiss text list count k (length dest)) ≡ none = passed [] (f .reached) (rw (le-ltb (length dest) (length B) (omega (arith, f .bytes-are)))) ∙ first-nil in

@@ -1,28 +1,19 @@
--- What the writer answers, and what the destination then holds. Assumes nothing.
+-- What is known at each stage of the writer. Assumes nothing.
 use Prim.Native.Nat.{ℕ, _≤_}
 use mathlib.Core.List.{List, [], _∷_}
 use mathlib.Core.Option.{Option}
 use mathlib.Core.Path.{_≡_}
 use lib.ListN.{length}
 use Rattle.sieve.specs.declared.Break.{Break}
-use Rattle.sieve.specs.declared.Written.{Written}
 use Rattle.sieve.specs.Bytes.{Bytes}
 use Rattle.sieve.specs.Lines.{joined}
 use Rattle.sieve.specs.Verdict.{Refusal, findings, first}
-use Rattle.sieve.specs.Paper.{paperWritten}
 use Rattle.sieve.specs.Places.{placed}
 use Rattle.sieve.specs.Reading.{noRoom}
-use Rattle.sieve.specs.Writing.{handed, strayBreak, writeFindings, writeAnswer}
+use Rattle.sieve.specs.Writing.{handed, strayBreak, writeFindings}
 use Rattle.swiss.specs.Limits.{mostBytes, fewestLines, mostLines}
 use Rattle.swiss.specs.Swiss.{swiss}
 use Rattle.writer.specs.Handing.{Inside}
-
--- of a text, a list of places, a count, a break and a destination, the answer r and the destination afterwards
-pub record IsWritten (text : Bytes) (list : List ℕ) (count : ℕ) (k : Break) (dest : Bytes) (r : Written) (after : Bytes) : Type 0 where
-  pub answer : paperWritten r ≡ writeAnswer swiss text list count k dest .answer
-  pub lent : after ≡ writeAnswer swiss text list count k dest .lent
-
--- what is known at each stage of the writer
 
 module _ (text : Bytes) (list : List ℕ) (count : ℕ) (k : Break) (dest : Bytes) where
   abbrev pub bytes : Bytes

@@ -1,5 +1,4 @@
 // Writes a bill: its lines, found in a text by a list of places, joined by a break.
-use judge::judge;
 use sieve::Answer;
 use sieve::Break;
 use sieve::Fault;
@@ -8,6 +7,7 @@ use swiss::limits::FEWEST_LINES;
 use swiss::limits::LIST_SIZE;
 use swiss::limits::MOST_BYTES;
 use swiss::limits::MOST_LINES;
+use swiss_judge::judge;
 use text::Stray;
 use text::break_length;
 use text::stray_break;
@@ -16,9 +16,10 @@ ghost use mathlib.Core.Path.{_≡_};
 ghost use Prim.Native.Nat.{_+_, _*_, _≤_, _<_};
 ghost use lib.ListN.{length, drop, getD};
 ghost use Rattle.sieve.specs.Lines.{joined};
-ghost use Rattle.sieve.specs.Writing.{handed};
+ghost use Rattle.sieve.specs.Writing.{handed, IsWritten};
+ghost use Rattle.swiss.specs.Swiss.{swiss};
 ghost use Rattle.writer.specs.Handing.{lineAt, outsideAs, firstOutside, Inside, firstStray, refusal, withBreak, breakIf};
-ghost use Rattle.writer.specs.Writing.{IsWritten, InText, Joined, Readable};
+ghost use Rattle.writer.specs.Writing.{InText, Joined, Readable};
 
 // The line that entry i of a list, counted from 0, gives of a text.
 fn handed_line<'a, 'b>(text: &'a [u8], list: &'b [u16], i: usize) -> &'a [u8]
@@ -176,7 +177,7 @@ fn write_accepted(
     n: usize,
 ) -> Written
     requires { ⌜ Readable (now text) (now list) count k (now dest) n ⌝ }
-    ensures { λ r. ⌜ IsWritten (now (text .entry)) (now (list .entry)) count k (now (dest .entry)) r (now (dest .exit)) ⌝ }
+    ensures { λ r. ⌜ IsWritten swiss (now (text .entry)) (now (list .entry)) count k (now (dest .entry)) r (now (dest .exit)) ⌝ }
 {
     if dest.len() < n {
         return Written::Refused(Fault::NoRoom);
@@ -196,7 +197,7 @@ fn write_joined(
     n: usize,
 ) -> Written
     requires { ⌜ Joined (now text) (now list) count k (now dest) n ⌝ }
-    ensures { λ r. ⌜ IsWritten (now (text .entry)) (now (list .entry)) count k (now (dest .entry)) r (now (dest .exit)) ⌝ }
+    ensures { λ r. ⌜ IsWritten swiss (now (text .entry)) (now (list .entry)) count k (now (dest .entry)) r (now (dest .exit)) ⌝ }
 {
     let mut joined = [0; 997];
     lay_lines(&mut joined, text, list, count, k);
@@ -218,7 +219,7 @@ fn write_joined(
 // Joins lines that all lie inside the text, unless they are too many bytes for a bill.
 fn write_lines(text: &[u8], list: &[u16], count: usize, k: Break, dest: &mut [u8]) -> Written
     requires { ⌜ InText (now text) (now list) count k (now dest) ⌝ }
-    ensures { λ r. ⌜ IsWritten (now (text .entry)) (now (list .entry)) count k (now (dest .entry)) r (now (dest .exit)) ⌝ }
+    ensures { λ r. ⌜ IsWritten swiss (now (text .entry)) (now (list .entry)) count k (now (dest .entry)) r (now (dest .exit)) ⌝ }
 {
     let n = joined_length(text, list, count, k);
     if MOST_BYTES < n {
@@ -230,7 +231,7 @@ fn write_lines(text: &[u8], list: &[u16], count: usize, k: Break, dest: &mut [u8
 // Joins the lines that the first `count` places give of the text, with the break between them, in the front of the
 // destination, and answers how many bytes those are. A refusal changes no byte of it.
 pub fn write(text: &[u8], places: &[u16], count: usize, brk: Break, dest: &mut [u8]) -> Written
-    ensures { λ r. ⌜ IsWritten (now (text .entry)) (now (places .entry)) count brk (now (dest .entry)) r (now (dest .exit)) ⌝ }
+    ensures { λ r. ⌜ IsWritten swiss (now (text .entry)) (now (places .entry)) count brk (now (dest .entry)) r (now (dest .exit)) ⌝ }
 {
     if places.len() < LIST_SIZE {
         return Written::Refused(Fault::NoRoom);

@@ -1,6 +1,6 @@
 -- `capi::qrbill_line` meets its contract: the places are those of the verdict. Assumes nothing.
 use Rattle.capi.specs.Packing.{packedPlace}
-use Rattle.judge.specs.Stages.{judgedPlaces}
+use Rattle.swiss_judge.specs.Stages.{judgedPlaces}
 use Rattle.swiss.specs.Swiss.{swiss}
 use Rattle.sieve.proofs.Accepts.{within-both}
 use Rattle.sieve.specs.Verdict.{accepted, refused, verdict}

@@ -5,7 +5,7 @@ use native.Mathlib.Omega.{arith}
 use mathlib.Core.Path.{_≡_, refl, sym, _∙_}
 use lib.ListN.{length, getD, drop}
 use borrow.Author.Needs.{needs}
-use Rattle.swiss.specs.Mod97.{number}
+use Rattle.sieve.specs.Mod97.{number}
 use Rattle.digits.proofs.Folds.{step, end}
 use Rattle.digits.proofs.Values.{onto-small}
 use Rattle.digits.proofs.Remainders.{numbers}

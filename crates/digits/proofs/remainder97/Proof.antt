@@ -6,7 +6,7 @@ use lib.ListN.{length, take, drop, length-drop, drop-of-length-le}
 use lib.Seq.{take-all}
 use borrow.Author.Needs.{needs}
 use Rattle.sieve.specs.Bytes.{Bytes}
-use Rattle.swiss.specs.Mod97.{number, remainder97}
+use Rattle.sieve.specs.Mod97.{number, remainder97}
 use Rattle.digits.proofs.Remainders.{carried, appended}
 use Rattle.digits.proofs.remainder97.Statement.{statement}
 use Rattle.digits.proofs.remainder97.Tie as tie

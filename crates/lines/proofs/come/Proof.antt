@@ -3,7 +3,7 @@ use Prim.Native.Nat.{ℕ, _+_, _-_, _≤_}
 use native.Mathlib.Omega.{arith}
 use mathlib.Core.Path.{_≡_, refl, sym, _∙_}
 use lib.ListN.{length, drop}
-use Rattle.swiss.specs.Latin.{latin}
+use Rattle.sieve.specs.Latin.{latin}
 use Rattle.lines.specs.declared.Walked.the-variants.{Clean}
 use Rattle.lines.specs.Walking.{noted, heldBy}
 use Rattle.lines.proofs.Stepping.{few, stops-here, ends-here}

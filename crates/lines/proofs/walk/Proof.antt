@@ -10,7 +10,7 @@ use lib.ListN.{length, replicate}
 use Rattle.sieve.specs.declared.Break.the-variants.{Lf}
 use Rattle.sieve.specs.Bytes.{Bytes}
 use Rattle.sieve.specs.Characters.{badPlace}
-use Rattle.swiss.specs.Latin.{latin}
+use Rattle.sieve.specs.Latin.{latin}
 use Rattle.lines.specs.declared.Walked.the-variants.{Clean, Bad}
 use Rattle.lines.specs.declared.Parted.{Parted}
 use Rattle.lines.specs.declared.Parted.the-variants.{Alike}

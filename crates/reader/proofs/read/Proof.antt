@@ -2,7 +2,7 @@
 use Prim.Native.Nat.{ℕ}
 use mathlib.Core.List.{List, _++_}
 use lib.ListN.{drop}
-use Rattle.judge.specs.Stages.{judgedPlaces}
+use Rattle.swiss_judge.specs.Stages.{judgedPlaces}
 use Rattle.swiss.specs.Swiss.{swiss}
 use Rattle.sieve.proofs.ReaderPromises.{refused-unlisted, accepted-no-room, accepted-listed}
 use Rattle.sieve.specs.Paper.{paper}

@@ -11,7 +11,8 @@ use Rattle.sieve.specs.Paper.{paper, paperFault}
 use Rattle.sieve.specs.Verdict.{verdict}
 use Rattle.swiss.specs.Swiss.{swiss}
 use Rattle.runs.proofs.Lays.{room-fits}
-use Rattle.judge.proofs.Numbers.{low-line, low-number, line-count}
+use Rattle.sieve.proofs.Numbers.{low-number}
+use Rattle.swiss.proofs.Numbers.{low-line, line-count}
 use Rattle.report.specs.Spoken.{Short, spoken}
 use borrow.Author.Needs.{needs}
 use Rattle.report.proofs.report.Statement.{statement}

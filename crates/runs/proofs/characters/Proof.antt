@@ -6,7 +6,8 @@ use borrow.Author.Needs.{needs}
 use lib.ListN.{length, getD, drop, drop-of-length-le}
 use Rattle.sieve.specs.Bytes.{within}
 use Rattle.sieve.specs.Characters.{characters}
-use Rattle.runs.proofs.ByteByByte.{next, at-most}
+use Rattle.sieve.proofs.LineFeeds.{at-most}
+use Rattle.runs.proofs.ByteByByte.{next}
 use Rattle.runs.proofs.characters.Statement.{statement}
 use Rattle.runs.proofs.characters.Tie as tie
 
