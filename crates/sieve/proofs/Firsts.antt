@@ -4,7 +4,8 @@ use mathlib.Core.Option.{Option, some, none}
 use mathlib.Core.Path.{_≡_, refl, _∙_, ap}
 use Rattle.sieve.specs.Verdict.{Refusal, first}
 
-first-append : (os ps : List (Option Refusal)) → first (first os ∷ ps) ≡ first (os ++ ps)
+-- what is found first in two lists
+pub first-append : (os ps : List (Option Refusal)) → first (first os ∷ ps) ≡ first (os ++ ps)
 unfolding first
 first-append [] ps = refl
 first-append (none ∷ os) ps = first-append os ps

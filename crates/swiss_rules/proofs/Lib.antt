@@ -1,2 +1,3 @@
 mod Listed
+mod Groups
 pub mod OneAnswer

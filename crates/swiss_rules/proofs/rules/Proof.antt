@@ -1,62 +1,34 @@
--- `swiss_rules::rules` meets its contract: the groups, one after the other, are the whole list of rules. Assumes nothing.
+-- `swiss_rules::rules` meets its contract: the three parts, one after the other, are the whole list of rules. Assumes nothing.
 use mathlib.Core.List.{flatten}
+use mathlib.Core.Path.{refl}
 use Rattle.swiss.specs.Swiss.{rules}
-use Rattle.sieve.proofs.Firsts.{then}
+use Rattle.findings.proofs.Looking.{numbered, group-stops, group-passed}
+use Rattle.swiss_rules.specs.Parts.{front, middle, back}
 use borrow.Author.Needs.{needs}
 use Rattle.swiss_rules.proofs.rules.Statement.{statement}
 use Rattle.swiss_rules.proofs.rules.Tie as tie
 
-header-requires : tie.Need-header-requires
-header-requires c κs = search needs
-
-account-requires : tie.Need-account-requires
-account-requires c κs = search needs
-
-address-requires : tie.Need-address-requires
-address-requires c κs = search needs
-
-reserved-requires : tie.Need-reserved-requires
-reserved-requires c κs = search needs
-
-payment-requires : tie.Need-payment-requires
-payment-requires c κs = search needs
-
-address-requires-2 : tie.Need-address-requires-2
-address-requires-2 c κs = search needs
-
-reference-requires : tie.Need-reference-requires
-reference-requires c κs = search needs
-
-information-requires : tie.Need-information-requires
-information-requires c κs = search needs
-
-pairs-requires : tie.Need-pairs-requires
-pairs-requires c κs = search needs
+front-requires : tie.Need-front-requires
+front-requires c κs = search needs
 
 returns : tie.Need-returns
-unfolding rules flatten
-returns c =
-    then _ _ (then _ _ (then _ _ (then _ _ (then _ _ (then _ _ (then _ _ (then _ _ (c .before .before .before .before .before .before .before .before .header .ensures)
-    (c .before .before .before .before .before .before .before .account .ensures))
-    (c .before .before .before .before .before .before .address .ensures))
-    (c .before .before .before .before .before .reserved .ensures))
-    (c .before .before .before .before .payment .ensures))
-    (c .before .before .before .address2 .ensures))
-    (c .before .before .reference .ensures))
-    (c .before .information .ensures))
-    (c .pairs .ensures)
+unfolding rules front middle back flatten
+returns c = group-stops _ front _ (c .before .before .front .ensures) (c .if1 .taken)
+
+middle-requires : tie.Need-middle-requires
+middle-requires c κs = search needs
+
+returns-2 : tie.Need-returns-2
+unfolding rules front middle back flatten numbered
+returns-2 c = let at-middle = c .before .before in group-passed _ front _ refl (at-middle .before .before .before .front .ensures) (at-middle .before .if1 .left) (group-stops _ middle _ (at-middle .middle .ensures) (c .if2 .taken))
+
+back-requires : tie.Need-back-requires
+back-requires c κs = search needs
+
+returns-3 : tie.Need-returns-3
+unfolding rules front middle back flatten numbered
+returns-3 c = let at-middle = c .before .before .before in group-passed _ front _ refl (at-middle .before .before .before .front .ensures) (at-middle .before .if1 .left) (group-passed _ middle back refl (at-middle .middle .ensures) (c .before .if2 .left) (c .back .ensures))
 
 pub rules-spec : {M : Type 1} → statement M
 rules-spec =
-    tie.close
-    (tie.spec
-    header-requires
-    account-requires
-    address-requires
-    reserved-requires
-    payment-requires
-    address-requires-2
-    reference-requires
-    information-requires
-    pairs-requires
-    returns)
+    tie.close (tie.spec front-requires returns middle-requires returns-2 back-requires returns-3)
