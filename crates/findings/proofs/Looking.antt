@@ -14,7 +14,7 @@ use Rattle.sieve.specs.Rules.{Rule}
 use Rattle.sieve.specs.Verdict.{Refusal, under, found, aboutLines, first}
 use Rattle.sieve.specs.Paper.{paperFault}
 use Rattle.sieve.proofs.Firsts.{first-append}
-use Rattle.sieve.proofs.Accepts.{within-both}
+use Rattle.sieve.proofs.Bounds.{is-within}
 use Rattle.findings.specs.declared.Finding.{Finding}
 use Rattle.findings.specs.Findings.{small, after, finds, faultOf}
 
@@ -38,12 +38,12 @@ stays f [] ls h = refl
 stays f (r ∷ rs) ls h = rw (h, looked) (stays f rs ls h)
 
 not-0 : (n : ℕ) → within 6 13 n ≡ true → eqb n 0 ≡ false
-not-0 n h = ne-eqb n 0 (λ e. omega (arith, within-both 6 13 n h))
+not-0 n h = ne-eqb n 0 (λ e. omega (arith, is-within 6 13 n h))
 
 -- the fault of such a number says that number and the line
 fault-says : (n i : ℕ) → within 6 13 n ≡ true → paperFault (faultOf n i) ≡ under n i
 fault-says n i h =
-    let (least, most) = within-both 6 13 n h in
+    let (least, most) = is-within 6 13 n h in
     or 6 _ _ least (λ e. rw e) (λ a. or 7 _ _ a (λ e. rw e) (λ b. or 8 _ _ b (λ e. rw e) (λ c. or 9 _ _ c (λ e. rw e)
     (λ d. or 10 _ _ d (λ e. rw e) (λ f. or 11 _ _ f (λ e. rw e) (λ g. or 12 _ _ g (λ e. rw e) (λ j. let last : n ≡ 13 = le-antisymm most j in rw last)))))))
   where
@@ -101,7 +101,7 @@ module _ (ls : List Bytes) where
     where
       go : (o : Option Refusal) → firstOf rs ≡ o → small o .number ≡ 0 → o ≡ none
       go none e z = refl
-      go (some q) e z = absurd (omega (arith, within-both 6 13 (q .number) (said rs q h e .known)))
+      go (some q) e z = absurd (omega (arith, is-within 6 13 (q .number) (said rs q h e .known)))
 
   -- else the fault that the code makes of it is what they find
   pub found-fault : (rs : List Rule) → numbered rs ≡ true → (finds rs ls .number ≡ 0 → ⊥) → firstOf rs ≡ some (paperFault (faultOf (finds rs ls .number) (finds rs ls .line)))

@@ -1,3 +1,4 @@
+pub mod Bounds
 pub mod Heads
 pub mod Likeness
 pub mod Latin
@@ -7,6 +8,7 @@ pub mod Widths
 pub mod Walking
 pub mod Firsts
 pub mod Findings
+pub mod Stages
 pub mod Accepts
 pub mod Earliest
 pub mod Placing

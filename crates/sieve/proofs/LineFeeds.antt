@@ -2,18 +2,13 @@
 use Prim.Native.Nat.{ℕ, _+_, _≤_}
 use native.Mathlib.Nat.{zero-add}
 use native.Mathlib.Omega.{arith}
-use mathlib.Core.Bool.{Bool, true, false, cond}
 use mathlib.Core.List.{[], _∷_, _++_}
 use mathlib.Core.Path.{_≡_, sym}
 use lib.Dec.{eqb}
 use lib.ListN.{length}
 use Rattle.sieve.specs.Bytes.{Bytes}
 use Rattle.sieve.specs.Characters.{lineFeeds}
-
--- one of two numbers is at most n where both are
-pub at-most : (n : ℕ) (b : Bool) (x y : ℕ) → x ≤ n → y ≤ n → cond b x y ≤ n
-at-most n true x y h k = h
-at-most n false x y h k = k
+use Rattle.sieve.proofs.Bounds.{case-at-most}
 
 pub feeds-append : (a b : Bytes) → lineFeeds (a ++ b) ≡ lineFeeds a + lineFeeds b
 unfolding lineFeeds
@@ -23,4 +18,4 @@ feeds-append (x ∷ a) b = omega (arith, feeds-append a b)
 pub feeds-few : (s : Bytes) → lineFeeds s ≤ length s
 unfolding lineFeeds
 feeds-few [] = omega arith
-feeds-few (x ∷ s) = omega (arith, feeds-few s, at-most 1 (eqb x 10) 1 0 (omega arith) (omega arith))
+feeds-few (x ∷ s) = omega (arith, feeds-few s, case-at-most 1 (eqb x 10) {x = 1} {y = 0} (λ e. omega arith) (omega arith))

@@ -17,7 +17,8 @@ use Rattle.sieve.specs.Demand.{Is}
 use Rattle.sieve.specs.Places.{placed, placesOf, listSize}
 use Rattle.sieve.specs.Paper.{laid, not-laid}
 use Rattle.sieve.specs.Writing.{outside, Span, spans, part, handed, strayBreak, writeFindings, laidOnto, writeAnswer}
-use Rattle.sieve.proofs.Accepts.{within-both, clean-read-back, read-back}
+use Rattle.sieve.proofs.Accepts.{clean-read-back, read-back}
+use Rattle.sieve.proofs.Bounds.{is-within}
 use Rattle.sieve.proofs.Findings.{found-none, each-none, first-nil, none-first, settled-accepts, verdict-is}
 use Rattle.sieve.proofs.Placing.{span, spans-of, length-placed, list-length, places-cut-out}
 use Rattle.sieve.proofs.ReaderPromises.{spans-front}
@@ -64,7 +65,7 @@ module _ (L : Layout) (text : Bytes) (list : List ℕ) (count : ℕ) (k : Break)
     laid-accepted n h =
         let (o, _, _) = laid-facts (written b) dest (first (writeFindings L text list count k (length dest))) h in
         let none-at = each-none (writeFindings L text list count k (length dest)) o in
-        let (enough, _) = within-both (L .fewest-lines) (L .most-lines) count (not-false _ (found-none _ _ (none-at 1))) in
+        let (enough, _) = is-within (L .fewest-lines) (L .most-lines) count (not-false _ (found-none _ _ (none-at 1))) in
         let size = handed-length text list count in
         let back = clean-read-back b (omega (arith, size)) (unstray-clean k (b .lines) 1 0 (none-at 3)) in
         let v : verdict L (written b) ≡ accepted count k = verdict-is L (written b) ∙ rw (none-at 4, back, size) in

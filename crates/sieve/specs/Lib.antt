@@ -8,6 +8,7 @@ pub mod Latin
 pub mod Rules
 pub mod Kinds
 pub mod Verdict
+pub mod Whole
 pub mod Paper
 pub mod Places
 pub mod Reading

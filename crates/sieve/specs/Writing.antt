@@ -1,14 +1,14 @@
 -- The writer's whole answer for any text, list of places, count, break and destination, and what the destination then holds. Assumes nothing.
 use Prim.Native.Nat.{ℕ, zero, suc, _+_}
 use mathlib.Core.Bool.{Bool, not}
-use mathlib.Core.List.{List, [], _∷_, _++_, map}
+use mathlib.Core.List.{List, [], _∷_, map}
 use mathlib.Core.Option.{Option, some, none, Option·map}
 use mathlib.Core.Path.{_≡_}
 use lib.Dec.{ltb}
 use lib.ListN.{getD, take, drop, length}
 use Rattle.sieve.specs.declared.Break.{Break}
 use Rattle.sieve.specs.declared.Written.{Written}
-use Rattle.sieve.specs.Bytes.{Bytes, within, firstSuch}
+use Rattle.sieve.specs.Bytes.{Bytes, within, firstSuch, over}
 use Rattle.sieve.specs.Lines.{ofBreak, joined}
 use Rattle.sieve.specs.Rules.{Layout}
 use Rattle.sieve.specs.Verdict.{Refusal, under, underAt, found, findings, first}
@@ -62,7 +62,7 @@ writeFindings L text list count k room =
 
 -- the joined bytes, in the front of the destination, where nothing is found
 abbrev pub laidOnto : Bytes → Bytes → Option Refusal → Done Laying
-laidOnto bytes dest none = record { answer = laid (length bytes); lent = bytes ++ drop (length bytes) dest }
+laidOnto bytes dest none = record { answer = laid (length bytes); lent = over dest bytes }
 laidOnto bytes dest (some r) = record { answer = not-laid r; lent = dest }
 
 unfoldable pub writeAnswer : Layout → Bytes → List ℕ → ℕ → Break → Bytes → Done Laying

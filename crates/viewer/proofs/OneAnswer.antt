@@ -13,30 +13,30 @@ use denote.Ref.{RefT, now}
 use denote.Triple.Entry.{Args, Res}
 use denote.Triple.Clauses.{Ended, AtExit, Clauses}
 use Rattle.sieve.specs.Bytes.{Bytes}
-use Rattle.sieve.specs.OneAnswer.{Told, OneAnswer}
+use Rattle.sieve.specs.OneAnswer.{Learns, OneAnswer}
 use Rattle.sieve.proofs.PaperLosesNothing.{one-answer}
 use Rattle.viewer.specs.View.{isDone, standing}
 use Rattle.viewer.specs.Held.{IsOpened, IsLine, IsNext}
 use Rattle.viewer.proofs as fn
 
-abbrev Open : Told fn.open.ended
+abbrev Open : Learns fn.open.ended
 Open κs a r e = IsOpened (a .0) r
 
-abbrev Done : Told fn.done.ended
+abbrev Done : Learns fn.done.ended
 Done κs a r e = r ≡ isDone (now (a .0 .payload)) (a .0 .at)
 
-abbrev Line : Told fn.line.ended
+abbrev Line : Learns fn.line.ended
 Line κs a r e = IsLine (a .0 .payload) (a .0 .at) r
 
-abbrev Next : Told fn.next.ended
+abbrev Next : Learns fn.next.ended
 Next κs a r e = IsNext (a .0) r
 
-abbrev Account : Told fn.account.ended
+abbrev Account : Learns fn.account.ended
 Account κs a r e = IsLine (a .0) (standing (now (a .0)) 3) r
 
 -- in any model, a contract says what its reading says and nothing else
 module _ {M : Type 1} (𝓤 : URA M) (H : Heap 𝓤) (A : Atoms 𝓤) (mem : Memory → SProp 𝓤) (run : Routine → Fun 𝓤) where
-  abbrev Says : (T : Ended) → Told T → Clauses 𝓤 T → Type 2
+  abbrev Says : (T : Ended) → Learns T → Clauses 𝓤 T → Type 2
   Says T Learnt clauses =
       (κs : Lfts (T .signature .lifetimes)) (a : Args (T .signature) κs) (g : clauses κs a .ghost) (r : Res (T .signature) κs) (e : AtExit T κs) → clauses κs a .ensures g r e ≡ fact 𝓤 (Learnt κs a r e)
 

@@ -24,7 +24,7 @@ use Rattle.sieve.specs.Paper.{paperFault}
 use Rattle.sieve.specs.Places.{Placed, placed}
 use Rattle.sieve.specs.Reading.{noRoom}
 use Rattle.sieve.specs.Writing.{spans, handed, outsideText, strayBreak, writeFindings, writeAnswer, IsWritten}
-use Rattle.sieve.proofs.Accepts.{within-both}
+use Rattle.sieve.proofs.Bounds.{is-within}
 use Rattle.sieve.proofs.Findings.{first-nil, settled-accepts, settled-refuses, verdict-is}
 use Rattle.sieve.proofs.WriterPromises.{handed-length, unstray-counted, counted-unstray}
 use Rattle.swiss.specs.Limits.{mostBytes, fewestLines, mostLines}
@@ -127,7 +127,7 @@ module _ (text : Bytes) (list : List ℕ) (count : ℕ) (k : Break) (dest : Byte
           go : (o : Option ℕ) → firstOutside text list count ≡ o → Nowhere ≡ outsideAs o → InText text list count k dest
           go (some j) e q = let z : _≡_ {A = ℕ} 0 1 = cc in absurd (omega arith)
           go none e q =
-              let (least, most) = within-both fewestLines mostLines count good in
+              let (least, most) = is-within fewestLines mostLines count good in
               record {
                 inside = all-inside text list count (omega arith) e;
                 enough = least;

@@ -2,7 +2,7 @@
 use Rattle.capi.specs.Packing.{packedPlace}
 use Rattle.swiss_judge.specs.Stages.{judgedPlaces}
 use Rattle.swiss.specs.Swiss.{swiss}
-use Rattle.sieve.proofs.Accepts.{within-both}
+use Rattle.sieve.proofs.Bounds.{is-within}
 use Rattle.sieve.specs.Verdict.{accepted, refused, verdict}
 use Rattle.sieve.specs.Paper.{paper, paperFault}
 use mathlib.Core.Path.{_≡_, sym, ap, _∙_}
@@ -29,7 +29,7 @@ accepted-is c = sym (c .before .before .before .judge .ensures .answer) ∙ ap p
 
 packed-place-requires : tie.Need-packed-place-requires
 packed-place-requires c κs =
-    let (least, most) = within-both 1 _ (c .before .before .before .before .before .before .before .args .line) (c .before .if1 .taken) in
+    let (least, most) = is-within 1 _ (c .before .before .before .before .before .before .before .args .line) (c .before .if1 .taken) in
     search (needs, least, most)
 
 returns : tie.Need-returns

@@ -3,7 +3,7 @@ use Prim.Native.Nat.{_≤_}
 use Rattle.sieve.specs.Mod97.{number}
 use native.Mathlib.Omega.{arith}
 use mathlib.Core.Path.{sym, ap, _∙_}
-use lib.ListN.{length, drop, length-drop, drop-of-length-le}
+use lib.ListN.{length, take, drop, length-take, length-drop, drop-of-length-le}
 use lib.Seq.{take-all}
 use Rattle.swiss_forms.proofs.Parts.{rest}
 use borrow.Author.Needs.{needs}
@@ -23,7 +23,9 @@ number-requires : tie.Need-number-requires
 number-requires c κs = search needs
 
 returns : tie.Need-returns
-returns c = c .number .ensures
+returns c =
+    let l = c .before .before .before .before .args .s .now in
+    c .number .ensures ∙ ap (number 0) (take-all 9 (take 5 (drop 4 l)) (simp length-take (omega arith)))
 
 sub-number-2 : tie.Need-sub-number-2
 sub-number-2 c = search needs
@@ -40,7 +42,8 @@ number-requires-2 c κs = search needs
 returns-2 : tie.Need-returns-2
 returns-2 c =
     let l = c .before .before .before .before .before .args .s .now in
-    c .number2 .ensures ∙ ap (number 0) (rest 4 l ∙ sym (take-all 5 (drop 4 l) (simp length-drop (omega arith))))
+    let few : length (drop 4 l) ≤ 5 = simp length-drop (omega arith) in
+    c .number2 .ensures ∙ ap (number 0) (ap (take 9) (rest 4 l) ∙ take-all 9 (drop 4 l) (omega arith) ∙ sym (take-all 5 (drop 4 l) few))
 
 returns-3 : tie.Need-returns-3
 unfolding number

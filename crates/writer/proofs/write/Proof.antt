@@ -1,6 +1,6 @@
 -- `writer::write` meets its contract: list, count and places either end in a refusal or leave the findings after them. Assumes nothing.
 use Rattle.swiss.specs.Limits.{fewestLines, mostLines}
-use Rattle.sieve.proofs.Accepts.{within-both}
+use Rattle.sieve.proofs.Bounds.{is-within}
 use native.Mathlib.Omega.{arith}
 use mathlib.Core.Path.{sym, _∙_}
 use Rattle.writer.proofs.Writing.{short-list, wrong-count, place-outside, places-inside}
@@ -12,7 +12,7 @@ returns : tie.Need-returns
 returns c = short-list (c .before .before .before .before .args .text .now) (c .before .before .before .before .args .places .now) (c .before .before .before .before .args .count) (c .before .before .before .before .args .brk) (c .before .before .before .before .args .dest .now) (c .if1 .taken)
 
 first-outside-requires : tie.Need-first-outside-requires
-first-outside-requires c κs = omega (arith, within-both fewestLines mostLines (c .before .before .before .before .before .args .count) (c .if2 .taken) .1)
+first-outside-requires c κs = omega (arith, is-within fewestLines mostLines (c .before .before .before .before .before .args .count) (c .if2 .taken) .1)
 
 enum-known-i : tie.Need-enum-known-i
 enum-known-i c = search needs
