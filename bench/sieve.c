@@ -296,6 +296,7 @@ static inline bool is(const struct bill *bill, size_t line, const char *text, ui
     return size_of(bill, line) == size && memcmp(text_of(bill, line), text, size) == 0;
 }
 
+/* Whether a line has more than so many characters. */
 static inline bool is_longer(const struct bill *bill, size_t line, uint32_t most)
 {
     return size_of(bill, line) > most && characters(bill, line) > most;
@@ -309,6 +310,7 @@ static inline uint32_t broken_on_text(const struct bill *bill, size_t line, uint
     return size_of(bill, line) == 0 ? MISSING : characters(bill, line) > most ? TOO_LONG : 0;
 }
 
+/* 0 where no rule is broken. */
 static inline uint32_t refused_if(uint32_t broken, size_t line)
 {
     return broken == 0 ? 0 : refused(broken, line);
