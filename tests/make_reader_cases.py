@@ -14,24 +14,19 @@ from itertools import zip_longest
 from pathlib import Path
 
 from casefile import read_cases
+from framing import LENGTH_BYTES, framed
 from reference.qrbill import LIST_NUMBERS, Accepted, read
-from stored import records, store, told
+from stored import kept, store
+from telling import told
 
-TESTS = Path(__file__).resolve().parent
-CRATE = TESTS.parent / 'crates' / 'reader_cases'
+CRATE = Path(__file__).resolve().parent.parent / 'crates' / 'reader_cases'
 
 MOST_STORED = 2000  # bytes of a payload
-LENGTH_BYTES = 4
 LIST_SIZES = (68, 70, 67)
 LINES = len(LIST_SIZES) + 1  # that the program writes for a payload
 ACCOUNT_LINE = 4
 FIRST_MARK = 60000
 BREAK_NUMBERS = {'LF': 1, 'CRLF': 2}
-
-
-def record(payload):
-    """A payload behind its length."""
-    return len(payload).to_bytes(LENGTH_BYTES, 'little') + payload
 
 
 def account(payload):
@@ -58,23 +53,16 @@ def line(payload, size):
 
 def make():
     """For each line that is to be written a name, and the payload's record with the line."""
-    for case in read_cases(TESTS / 'cases'):
+    for case in read_cases():
         payload = case.payload[:MOST_STORED]
         for size in LIST_SIZES:
-            yield f'{case.name} with {size} numbers', (record(payload), line(payload, size))
-        yield f'{case.name}, its account', (record(payload), account(payload))
-
-
-def stored():
-    """Each record once for each of its lines, with the line of the stored output."""
-    content = (CRATE / 'stdin').read_bytes()
-    repeated = [record for record in records(content, LENGTH_BYTES) for _ in range(LINES)]
-    return zip_longest(repeated, (CRATE / 'stdout').read_bytes().splitlines(keepends=True))
+            yield f'{case.name} with {size} numbers', (framed(payload), line(payload, size))
+        yield f'{case.name}, its account', (framed(payload), account(payload))
 
 
 def checks():
     """Each check as its name, what should be there, and what is."""
-    for made, got in zip_longest(make(), stored()):
+    for made, got in zip_longest(make(), kept(CRATE, LENGTH_BYTES, LINES)):
         name, expected = made or ('past the last case', None)
         yield name, expected, got
 

@@ -13,7 +13,7 @@ import sys
 from typing import NamedTuple
 
 from claims import CLAIMS, CRATES, ROOT, section
-from stored import told
+from telling import told
 
 CRATE = re.compile(r'^(\w+):', re.MULTILINE)
 PUBLIC_MODULE = re.compile(r'^pub mod (\w+);', re.MULTILINE)

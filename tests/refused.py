@@ -10,7 +10,7 @@ import re
 import sys
 
 from claims import CRATES, ROOT, section
-from stored import told
+from telling import told
 
 LOGS = ROOT / 'target' / 'must-fail'
 
