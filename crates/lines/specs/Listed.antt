@@ -3,8 +3,8 @@ use Prim.Native.Nat.{ℕ, _-_, _*_}
 use mathlib.Core.Bool.{cond}
 use mathlib.Core.List.{List, _++_}
 use mathlib.Core.Path.{_≡_}
-use lib.Dec.{ltb}
-use lib.ListN.{length, take}
+use lib.Dec.{ltb, leb}
+use lib.ListN.{length, take, replicate}
 use Rattle.sieve.specs.Bytes.{Bytes}
 use Rattle.sieve.specs.Places.{entryNumbers, entries}
 use Rattle.text.specs.LinesIn.{linesIn, linesAt}
@@ -19,6 +19,14 @@ room = entryNumbers * capacity
 -- an entry for each line that there is room for
 unfoldable pub listed : Bytes → List ℕ
 listed p = entries capacity (length p) (linesIn p)
+
+-- the greatest number of 16 bits
+abbrev pub greatest : ℕ
+greatest = 65535
+
+-- the list of bytes that 16 bits count; of more bytes all numbers are 0
+abbrev pub listedShort : Bytes → List ℕ
+listedShort p = cond (leb (length p) greatest) (listed p) (replicate room 0)
 
 -- the list while it is filled: the numbers of n lines, and what is still to come from place `at` on
 abbrev pub Filled : Bytes → List ℕ → ℕ → ℕ → Type 0

@@ -46,19 +46,19 @@ length-placed at k (l ∷ ls) = ap suc (length-placed _ k ls)
 
 -- the part at a line's place is the line, in bytes that hold the lines after some others
 
-here : (before l after : Bytes) (at : ℕ) → length before ≡ at → part (before ++ (l ++ after)) (record { start = at; bytes = length l }) ≡ l
-here before l after at h = rw (drop-at before (l ++ after) at h) (take-append-seam l after)
+pub part-here : (before l after : Bytes) (at : ℕ) → length before ≡ at → part (before ++ (l ++ after)) (record { start = at; bytes = length l }) ≡ l
+part-here before l after at h = rw (drop-at before (l ++ after) at h) (take-append-seam l after)
 
 cut-out : (k : Break) (ls : List Bytes) (before l : Bytes) (at : ℕ) → length before ≡ at → map (part (before ++ (l ++ afterBreaks k ls))) (map span (placed at k (l ∷ ls))) ≡ l ∷ ls
 unfolding placed
-cut-out k [] before l at h = ap (λ (t : Bytes). t ∷ []) (here before l [] at h)
+cut-out k [] before l at h = ap (λ (t : Bytes). t ∷ []) (part-here before l [] at h)
 cut-out k (m ∷ ls) before l at h =
     let rest = m ++ afterBreaks k ls in
     let next = at + length l + length (breakBytes k) in
     let longer = before ++ (l ++ breakBytes k) in
     let same : before ++ (l ++ (breakBytes k ++ rest)) ≡ longer ++ rest = simp append-assoc in
     let others = ap (λ (t : Bytes). map (part t) (map span (placed next k (m ∷ ls)))) same ∙ cut-out k ls longer m next (omega (arith, length-append before (l ++ breakBytes k), length-append l (breakBytes k))) in
-    ap₂ (λ (t : Bytes) (ts : List Bytes). t ∷ ts) (here before l (breakBytes k ++ rest) at h) others
+    ap₂ (λ (t : Bytes) (ts : List Bytes). t ∷ ts) (part-here before l (breakBytes k ++ rest) at h) others
 
 all-cut-out : (k : Break) (ls : List Bytes) → map (part (joined k ls)) (map span (placed 0 k ls)) ≡ ls
 unfolding placed

@@ -5,12 +5,12 @@ use mathlib.Core.List.{List, [], _∷_, _++_, map, append-assoc, List·Memᴰ, L
 use mathlib.Core.Logic.{_≢_}
 use mathlib.Core.Path.{_≡_, refl, sym, ap, ap₂, _∙_}
 use lib.ListN.{length, getD, take, drop, length-append}
-use lib.Seq.{take-append-seam, drop-at}
 use Rattle.sieve.specs.declared.Break.{Break}
 use Rattle.sieve.specs.Bytes.{Bytes}
 use Rattle.sieve.specs.Lines.{Next, breakBytes, gluedAfter, cut, linesOf, breaksOf}
 use Rattle.sieve.specs.Places.{Placed, placed}
 use Rattle.sieve.proofs.Cutting.{glued-cut}
+use Rattle.sieve.proofs.Placing.{part-here}
 use Rattle.text.specs.declared.LineAt.{LineAt}
 use Rattle.text.specs.declared.Place.{Place}
 use Rattle.text.specs.Results.{IsLineAt, IsPlaceOf}
@@ -25,15 +25,12 @@ absent s = record { start = length s; text = [] }
 abbrev Lies : Bytes → Placed → Type 0
 Lies s l = take (length (l .text)) (drop (l .start) s) ≡ l .text
 
-here : (before l after : Bytes) (at : ℕ) → length before ≡ at → Lies (before ++ (l ++ after)) (record { start = at; text = l })
-here before l after at h = rw (drop-at before (l ++ after) at h) (take-append-seam l after)
-
 lie : (ns : List Next) (before l : Bytes) (at i : ℕ) → length before ≡ at → (s : Bytes) → before ++ (l ++ gluedAfter ns) ≡ s
     → Lies s (getD (linesFrom at l ns) i (absent s))
 unfolding linesFrom
-lie [] before l at zero h s e = rw (← e) (here before l [] at h)
+lie [] before l at zero h s e = rw (← e) (part-here before l [] at h)
 lie [] before l at (suc i) h s e = refl
-lie (n ∷ ns) before l at zero h s e = rw (← e) (here before l (gluedAfter (n ∷ ns)) at h)
+lie (n ∷ ns) before l at zero h s e = rw (← e) (part-here before l (gluedAfter (n ∷ ns)) at h)
 lie (n ∷ ns) before l at (suc i) h s e =
     let b = breakBytes (n .break) in
     let longer = before ++ (l ++ b) in

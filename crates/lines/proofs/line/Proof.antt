@@ -1,15 +1,14 @@
--- `swiss_rules::places::line` meets its contract: the list says where the line lies. Assumes nothing.
-use Rattle.swiss_rules.proofs.Listed.{listed-length, LineAtPlace, listed-line, part-is-line}
-use lib.ListN.{length, getD}
-use mathlib.Core.Path.{ap}
-use native.Mathlib.Omega.{arith}
+-- `lines::line` meets its contract: the list says where the line lies. Assumes nothing.
 use Prim.Native.Nat.{_-_, _*_}
+use native.Mathlib.Omega.{arith}
 use borrow.Author.Needs.{needs}
-use Rattle.swiss_rules.proofs.places.line.Statement.{statement}
-use Rattle.swiss_rules.proofs.places.line.Tie as tie
+use lib.ListN.{getD}
+use Rattle.lines.proofs.Listed.{LineAtPlace, listed-line, part-is-line}
+use Rattle.lines.proofs.line.Statement.{statement}
+use Rattle.lines.proofs.line.Tie as tie
 
 -- what the list says of the line
-place : (c : tie.Start) → LineAtPlace (c .args .payload .now) (c .args .n) (getD (c .args .places .now) (2 * c .args .n - 2) 0) (getD (c .args .places .now) (2 * c .args .n - 1) 0)
+place : (c : tie.Start) → let a = c .args in LineAtPlace (a .payload .now) (a .n) (getD (a .places .now) (2 * a .n - 2) 0) (getD (a .places .now) (2 * a .n - 1) 0)
 place c = rw (c .pre .0) (listed-line (c .args .payload .now) (c .args .n) (c .pre .1) (c .pre .2))
 
 mul-start : tie.Need-mul-start
@@ -21,11 +20,11 @@ sub-start c = search needs
 mul-start-2 : tie.Need-mul-start-2
 mul-start-2 c = search needs
 
-shared-slice-read-start : tie.Need-shared-slice-read-start
-shared-slice-read-start c = omega (arith, ap length (c .before .pre .0), listed-length (c .before .args .payload .now))
+element-copy-out-start : tie.Need-element-copy-out-start
+element-copy-out-start c = search needs
 
 cast-start : tie.Need-cast-start
-cast-start c = omega (arith, c .shared-slice-known .given (2 * c .before .args .n - 2))
+cast-start c = omega (arith, place (c .before) .within)
 
 mul-end : tie.Need-mul-end
 mul-end c = search needs
@@ -36,11 +35,11 @@ sub-end c = search needs
 mul-end-2 : tie.Need-mul-end-2
 mul-end-2 c = search needs
 
-shared-slice-read-end : tie.Need-shared-slice-read-end
-shared-slice-read-end c = omega (arith, ap length (c .before .before .pre .0), listed-length (c .before .before .args .payload .now))
+element-copy-out-end : tie.Need-element-copy-out-end
+element-copy-out-end c = search needs
 
 cast-end : tie.Need-cast-end
-cast-end c = omega (arith, c .shared-slice-known2 .given (2 * c .before .before .args .n - 1))
+cast-end c = omega (arith, place (c .before .before) .within)
 
 add-end : tie.Need-add-end
 add-end c = omega (arith, place (c .before .before) .within)
@@ -64,12 +63,12 @@ line-spec =
     mul-start
     sub-start
     mul-start-2
-    shared-slice-read-start
+    element-copy-out-start
     cast-start
     mul-end
     sub-end
     mul-end-2
-    shared-slice-read-end
+    element-copy-out-end
     cast-end
     add-end
     sub-result

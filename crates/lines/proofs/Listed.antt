@@ -13,11 +13,11 @@ use Rattle.sieve.proofs.Cutting.{glued-cut}
 use Rattle.sieve.proofs.Placing.{entries-length}
 use Rattle.text.specs.LinesIn.{linesFrom, linesIn, lineOf}
 use Rattle.text.proofs.LinesLie.{absent, line-lies}
-use Rattle.lines.specs.Listed.{listed}
+use Rattle.lines.specs.Listed.{capacity, room, listed}
 
-pub listed-length : (p : Bytes) → length (listed p) ≡ 68
+pub listed-length : (p : Bytes) → length (listed p) ≡ room
 unfolding listed
-listed-length p = entries-length 34 (length p) (linesIn p)
+listed-length p = entries-length capacity (length p) (linesIn p)
 
 -- the two numbers of an entry
 entry-at : (m i end : ℕ) (ls : List Placed) → i < m → let l = getD ls i (record { start = end; text = [] }) in
@@ -50,24 +50,27 @@ inside at l (n ∷ ns) zero end h = omega (arith, length-append l (gluedAfter (n
 inside at l (n ∷ ns) (suc i) end h =
     inside _ (n .line) ns i end (omega (arith, length-append l (gluedAfter (n ∷ ns)), length-append (breakBytes (n .break)) (n .line ++ gluedAfter ns)))
 
+-- line n of the list of lines is line n of the bytes
+its-text : (p : Bytes) (n : ℕ) → lineOf p n .text ≡ line n (linesOf (cut p))
+unfolding linesIn lineOf
+its-text p n = sym (List·getD-map (λ m. m .text) (linesIn p) (n - 1) (absent p)) ∙ ap (λ (t : List Bytes). getD t (n - 1) []) (texts 0 (cut p .first) (cut p .rest))
+
 -- where the list says that line n lies
 pub record LineAtPlace (p : Bytes) (n start bytes : ℕ) : Type 0 where
   pub within : start + bytes ≤ length p
   pub is : take bytes (drop start p) ≡ line n (linesOf (cut p))
 
-pub listed-line : (p : Bytes) (n : ℕ) → 1 ≤ n → n ≤ 34 → LineAtPlace p n (getD (listed p) (2 * n - 2) 0) (getD (listed p) (2 * n - 1) 0)
+pub listed-line : (p : Bytes) (n : ℕ) → 1 ≤ n → n ≤ capacity → LineAtPlace p n (getD (listed p) (2 * n - 2) 0) (getD (listed p) (2 * n - 1) 0)
 unfolding listed linesIn lineOf
 listed-line p n h k =
     let i = n - 1 in
-    let l = getD (linesIn p) i (absent p) in
-    let (a, b) = entry-at 34 i (length p) (linesIn p) (omega arith) in
+    let (a, b) = entry-at capacity i (length p) (linesIn p) (omega arith) in
     let start : 2 * n - 2 ≡ 2 * i = omega arith in
     let bytes : 2 * n - 1 ≡ 2 * i + 1 = omega arith in
-    let text : l .text ≡ line n (linesOf (cut p)) = sym (List·getD-map (λ m. m .text) (linesIn p) i (absent p)) ∙ ap (λ (t : List Bytes). getD t i []) (texts 0 (cut p .first) (cut p .rest)) in
     rw (start, bytes, a, b)
     (record {
       within = inside 0 (cut p .first) (cut p .rest) i (length p) (omega (arith, ap length (glued-cut p)));
-      is = line-lies p n ∙ text;
+      is = line-lies p n ∙ its-text p n;
     })
 
 -- the part from its start to its end is the line
