@@ -1,3 +1,2 @@
-mod Listed
 mod Groups
 pub mod OneAnswer

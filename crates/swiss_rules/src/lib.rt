@@ -1,8 +1,5 @@
 // The rules about a bill's lines, group by group of lines, in the order of the sieve. A group takes the lines that it is
 // about; those of seven lines take them out of the payload one by one. Once a rule is broken, later groups are left out.
-mod places;
-
-use crate::places::line;
 use digits::checks10;
 use digits::checks97;
 use findings::Finding;
@@ -14,6 +11,7 @@ use findings::filled;
 use findings::fixed;
 use findings::formed;
 use findings::rule;
+use lines::line;
 use runs::longer_together;
 use runs::same;
 use swiss::limits;
@@ -47,7 +45,7 @@ pub fn account(l: &[u8]) -> Finding
 }
 
 // The seven lines of an address, from line n on.
-fn address(payload: &[u8], places: &[u16], n: usize, optional: bool) -> Finding
+fn address(payload: &[u8], places: &[u16; 68], n: usize, optional: bool) -> Finding
     requires { ⌜ (now places ≡ listed (now payload)) × (1 ≤ n) × (n ≤ 28) ⌝ }
     ensures { λ r. ⌜ r ≡ finds (address n (absentIf optional n)) (linesOf (cut (now (payload .entry)))) ⌝ }
 {
@@ -86,7 +84,7 @@ fn address(payload: &[u8], places: &[u16], n: usize, optional: bool) -> Finding
 }
 
 // Lines 12 to 18.
-fn reserved(payload: &[u8], places: &[u16]) -> Finding
+fn reserved(payload: &[u8], places: &[u16; 68]) -> Finding
     requires { ⌜ now places ≡ listed (now payload) ⌝ }
     ensures { λ r. ⌜ r ≡ finds reserved (linesOf (cut (now (payload .entry)))) ⌝ }
 {
@@ -176,7 +174,7 @@ fn paired(account: &[u8], currency: &[u8], kind: &[u8]) -> bool
 }
 
 // Lines 1 to 11.
-fn front(payload: &[u8], places: &[u16]) -> Finding
+fn front(payload: &[u8], places: &[u16; 68]) -> Finding
     requires { ⌜ now places ≡ listed (now payload) ⌝ }
     ensures { λ r. ⌜ r ≡ finds front (linesOf (cut (now (payload .entry)))) ⌝ }
 {
@@ -196,7 +194,7 @@ fn front(payload: &[u8], places: &[u16]) -> Finding
 }
 
 // Lines 12 to 27.
-fn middle(payload: &[u8], places: &[u16]) -> Finding
+fn middle(payload: &[u8], places: &[u16; 68]) -> Finding
     requires { ⌜ now places ≡ listed (now payload) ⌝ }
     ensures { λ r. ⌜ r ≡ finds middle (linesOf (cut (now (payload .entry)))) ⌝ }
 {
@@ -212,7 +210,7 @@ fn middle(payload: &[u8], places: &[u16]) -> Finding
 }
 
 // Lines 28 to 34, of a bill of so many lines, and those that go together.
-fn back(payload: &[u8], places: &[u16], count: usize) -> Finding
+fn back(payload: &[u8], places: &[u16; 68], count: usize) -> Finding
     requires { ⌜ Counted (now payload) (now places) count ⌝ }
     ensures { λ r. ⌜ r ≡ finds back (linesOf (cut (now (payload .entry)))) ⌝ }
 {
@@ -244,7 +242,7 @@ fn back(payload: &[u8], places: &[u16], count: usize) -> Finding
 }
 
 // All rules about lines, in the order of the sieve.
-pub fn rules(payload: &[u8], places: &[u16], count: usize) -> Finding
+pub fn rules(payload: &[u8], places: &[u16; 68], count: usize) -> Finding
     requires { ⌜ Counted (now payload) (now places) count ⌝ }
     ensures { λ r. ⌜ r ≡ finds rules (linesOf (cut (now (payload .entry)))) ⌝ }
 {
