@@ -12,6 +12,6 @@ use Rattle.lines.specs.declared.Walked.the-variants.{Clean}
 use Rattle.lines.specs.Listed.{greatest, listed}
 use Rattle.lines.specs.Walking.{breaksIn, IsTold}
 
-pub clean-tells : (s : Bytes) (o : Option ℕ) (r : Told) (after : List ℕ) → IsTold s o r after → r .walked ≡ Clean → length s ≤ greatest → (r .parted ≡ breaksIn s) × (after ≡ listed s)
-clean-tells s none r after t h short = (t .parted, t .places ∙ rw (le-leb (length s) greatest short))
-clean-tells s (some at) r after t h short = let z : _≡_ {A = ℕ} 0 1 = cc in absurd (omega arith)
+pub clean-tells : (s : Bytes) (o : Option ℕ) (r : Told) {after : List ℕ} → IsTold s o r after → r .walked ≡ Clean → length s ≤ greatest → (r .parted ≡ breaksIn s) × (after ≡ listed s)
+clean-tells s none r t h short = (t .parted, t .places ∙ rw (le-leb (length s) greatest short))
+clean-tells s (some at) r t h short = let z : _≡_ {A = ℕ} 0 1 = cc in absurd (omega arith)
