@@ -15,8 +15,8 @@ from telling import told
 LOGS = ROOT / 'target' / 'must-fail'
 
 # The prover says of a refusal where it stands, and what is wrong there.
-REFUSAL = re.compile(r'^(?:note: )?(?P<file>\S+?):(?P<line>\d+):\d+: (?:error: )?(?P<wrong>.*)', re.MULTILINE)
-ERROR = re.compile(r'^\S+:\d+:\d+: error: ', re.MULTILINE)
+REFUSAL = re.compile(r'^(?:note: )?(?P<file>\S+?):(?P<line>\d+):\d+: (?P<error>error: )?(?P<wrong>.*)', re.MULTILINE)
+CONSEQUENCE = re.compile(r'was not admitted')  # of another refusal, which has its own line
 NOT_A_FACT = re.compile(r'has no (?:field )?`|cannot be named|not in scope')
 ROW = re.compile(r'^\| [^|]+ \| `(?P<edit>[^`]+)` \| `(?P<place>[^`]+)`', re.MULTILINE)
 
@@ -27,13 +27,18 @@ def edits():
         yield f'{file.parent.parent.name}/{file.stem}'
 
 
+def refusals(text):
+    """The errors of a log that are no consequences of others; where it has none, its notes."""
+    found = [one for one in REFUSAL.finditer(text) if not CONSEQUENCE.search(one['wrong'])]
+    return [one for one in found if one['error']] or found
+
+
 def first_refusal(edit):
-    """Where an edit was refused first, as FILE:LINE, and what was wrong there: the first error, or
-    the first note where the prover's own search found no proof."""
+    """Where an edit was refused first, as FILE:LINE, and what was wrong there: the first error that
+    is no consequence of another, or the first note where the prover's own search found no proof."""
     log = LOGS / edit / '.log'
     text = log.read_text('utf-8') if log.exists() else ''
-    error = ERROR.search(text)
-    found = REFUSAL.search(text, error.start() if error else 0)
+    found = next(iter(refusals(text)), None)
     if found is None:
         return 'nowhere', ''
     file = found['file'].rpartition(f'/{edit}/')[2]  # below the copy of the crate that was edited

@@ -12,7 +12,7 @@ use lib.Dec.{ltb}
 use borrow.Author.Tests.{ltb-true, ltb-false}
 use Rattle.sieve.specs.Bytes.{Bytes, every}
 use Rattle.text.specs.Runs.{run}
-use Rattle.sieve.proofs.LineFeeds.{at-most}
+use Rattle.sieve.proofs.Bounds.{case-at-most}
 use Rattle.runs.proofs.ByteByByte.{next}
 
 module _ (f : ℕ → Bool) where
@@ -41,7 +41,7 @@ module _ (f : ℕ → Bool) where
   few : (t : Bytes) → run f t ≤ length t
   unfolding run
   few [] = omega arith
-  few (x ∷ t) = omega (arith, at-most (suc (length t)) (f x) (suc (run f t)) 0 (omega (arith, few t)) (omega arith))
+  few (x ∷ t) = omega (arith, case-at-most (suc (length t)) (f x) {x = suc (run f t)} {y = 0} (λ e. omega (arith, few t)) (omega arith))
 
   all : (t : Bytes) → every f t ≡ true → run f t ≡ length t
   unfolding run

@@ -1,52 +1,79 @@
--- `swiss_judge::judge` meets its contract: each test either ends in the verdict or leaves the findings after it. Assumes nothing.
-use native.Mathlib.Omega.{arith}
-use mathlib.Core.Path.{sym, _∙_}
-use Rattle.sieve.specs.Characters.{badPlace}
-use Rattle.sieve.specs.Latin.{latin}
-use Rattle.lines.proofs.Telling.{clean-tells}
-use Rattle.swiss_judge.proofs.Stages.{refused-judged, no-bytes, too-many, bad-character, clean}
+-- `swiss_judge::judge` meets its contract: what is accepted as a whole hangs on the rules about lines. Assumes nothing.
+use Prim.Native.Nat.{ℕ}
+use mathlib.Core.Bool.{true}
+use mathlib.Core.List.{List, flatten}
+use mathlib.Core.Path.{_≡_, refl, ap}
+use lib.Dec.{lit≤}
+use Rattle.sieve.specs.Bytes.{Bytes}
+use Rattle.sieve.specs.Lines.{cut, linesOf}
+use Rattle.swiss.specs.Swiss.{rules, swiss}
+use Rattle.findings.proofs.Looking.{numbered, found-nothing, found-fault}
+use Rattle.whole.proofs.Judging.{refused-whole, kept, broken, counted}
 use borrow.Author.Needs.{needs}
 use Rattle.swiss_judge.proofs.judge.Statement.{statement}
 use Rattle.swiss_judge.proofs.judge.Tie as tie
 
-refused-requires : tie.Need-refused-requires
-refused-requires c κs = search needs
+rules-numbered : numbered rules ≡ true
+unfolding rules flatten numbered
+rules-numbered = refl
+
+abbrev ls : tie.Start → List Bytes
+ls c = linesOf (cut (c .args .payload .now))
+
+whole-requires : tie.Need-whole-requires
+whole-requires c κs = search needs
+
+enum-known-f : tie.Need-enum-known-f
+enum-known-f c = search needs
+
+enum-known-n : tie.Need-enum-known-n
+enum-known-n c = search needs
+
+rules-requires : tie.Need-rules-requires
+unfolding swiss
+rules-requires c κs = 
+    let is = rw (c .before .before .n .given .1) at (c .before .before .before .before .whole .ensures) in
+    let (listed-is, count-is) = counted swiss (c .before .before .before .before .before .before .before .args .payload .now) is (lit≤ tt) in
+    record { listed = listed-is; counted = count-is }
+
+clear-requires : tie.Need-clear-requires
+clear-requires c κs = search needs
+
+fault-of-requires : tie.Need-fault-of-requires
+fault-of-requires c κs = search needs
 
 returns : tie.Need-returns
-returns c = refused-judged (c .before .before .before .args .payload .now) _ _ (c .refused .ensures) (no-bytes (c .before .before .before .args .payload .now) (c .before .if1 .taken))
-
-refused-requires-2 : tie.Need-refused-requires-2
-refused-requires-2 c κs = search needs
+unfolding swiss
+returns c = 
+    let at-test = c .before .before .before in
+    let at-start = at-test .before .before .before .before .before .before .before .before .before .before in
+    let is = rw (at-test .before .before .before .before .before .n .given .1) at (at-test .before .before .before .before .before .before .before .whole .ensures) in
+    let found = at-test .before .before .rules .ensures in
+    let is-fault = rw (← found, ← c .fault-of .ensures) at (found-fault (ls at-start) rules rules-numbered (rw found at (at-test .if1 .taken))) in
+    broken swiss (at-start .args .payload .now) is (c .fault-of .result) is-fault refl (c .before .clear .ensures)
 
 returns-2 : tie.Need-returns-2
-returns-2 c = refused-judged (c .before .before .before .before .args .payload .now) _ _ (c .refused2 .ensures) (too-many (c .before .before .before .before .args .payload .now) (c .before .before .if1 .left) (c .before .if2 .taken))
-
-walk-requires : tie.Need-walk-requires
-walk-requires c κs = search needs
-
-enum-known-walked : tie.Need-enum-known-walked
-enum-known-walked c = search needs
-
-refused-requires-3 : tie.Need-refused-requires-3
-refused-requires-3 c κs = search needs
-
-enum-told : tie.Need-enum-told
-enum-told c = search needs
-
-judge-breaks-requires : tie.Need-judge-breaks-requires
-judge-breaks-requires c κs =
-    let p = c .before .before .before .before .before .before .args .payload .now in
-    let t = c .before .before .walk in
-    let (parted, places) = clean-tells p (badPlace latin p) (t .result) (t .ensures) (c .enum-told .given .1) (omega (arith, c .before .before .before .if2 .left)) in
-    (clean p (c .before .before .before .before .if1 .left) (c .before .before .before .if2 .left) (sym (c .enum-told .given .1) ∙ t .ensures .walked), parted, places)
+unfolding swiss
+returns-2 c = refused-whole swiss (c .before .before .before .before .before .before .args .payload .now) (rw (c .before .f .given .1) at (c .before .before .before .whole .ensures))
 
 returns-3 : tie.Need-returns-3
-returns-3 c =
-    let p = c .before .before .before .before .before .before .before .before .args .payload .now in
-    refused-judged p _ _ (c .refused3 .ensures) (bad-character p (c .before .before .before .before .before .before .if1 .left) (c .before .before .before .before .before .if2 .left) _ _ (sym (c .before .before .walked .given .1) ∙ c .before .before .before .before .walk .ensures .walked))
-
-returns-4 : tie.Need-returns-4
-returns-4 c = search needs
+unfolding swiss
+returns-3 c = 
+    let at-start = c .before .before .before .before .before .before .before .before .before .before in
+    let is = rw (c .before .before .before .before .before .n .given .1) at (c .before .before .before .before .before .before .before .whole .ensures) in
+    let found = c .before .before .rules .ensures in
+    kept swiss (at-start .args .payload .now) is (found-nothing (ls at-start) rules rules-numbered (rw found at (c .if1 .left)))
 
 pub judge-spec : {M : Type 1} → statement M
-judge-spec = tie.close (tie.spec refused-requires returns refused-requires-2 returns-2 walk-requires enum-known-walked refused-requires-3 enum-told judge-breaks-requires returns-3 returns-4)
+judge-spec =
+    tie.close
+    (tie.spec
+    whole-requires
+    enum-known-f
+    enum-known-n
+    rules-requires
+    clear-requires
+    fault-of-requires
+    returns
+    returns-2
+    returns-3)

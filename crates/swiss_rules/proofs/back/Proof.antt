@@ -16,10 +16,10 @@ use Rattle.swiss_rules.proofs.back.Tie as tie
 abbrev ls : tie.Start → List Bytes
 ls c = linesOf (cut (c .args .payload .now))
 
-reference-is : (c : tie.After-reference) → c .reference .result ≡ finds reference (ls (c .before .before .before .before .before))
+reference-is : (c : tie.After-reference) → c .reference .result ≡ finds reference (ls (c .before .before .before .before))
 reference-is c = rw (c .before .line2 .ensures, c .before .before .line .ensures) at (c .reference .ensures) ∙ of-reference _
 
-information-is : (c : tie.After-information) → c .information .result ≡ finds information (ls (c .before .before .before .before .before .before .before .before .before .before .before))
+information-is : (c : tie.After-information) → c .information .result ≡ finds information (ls (c .before .before .before .before .before .before .before .before .before .before))
 information-is c = rw (c .before .line5 .ensures, c .before .before .line4 .ensures, c .before .before .before .line3 .ensures) at (c .information .ensures) ∙ of-information _
 
 line-requires : tie.Need-line-requires
@@ -61,7 +61,7 @@ at-most-requires : tie.Need-at-most-requires
 at-most-requires c κs = search needs
 
 line-requires-7 : tie.Need-line-requires-7
-line-requires-7 c κs = (c .before .before .before .before .before .before .before .before .before .before .before .before .before .before .before .before .pre .listed, lit≤ tt, lit≤ tt)
+line-requires-7 c κs = (c .before .before .before .before .before .before .before .before .before .before .before .before .before .before .before .pre .listed, lit≤ tt, lit≤ tt)
 
 filled-requires-2 : tie.Need-filled-requires-2
 filled-requires-2 c κs = search needs
@@ -70,10 +70,10 @@ at-most-requires-2 : tie.Need-at-most-requires-2
 at-most-requires-2 c κs = search needs
 
 line-requires-8 : tie.Need-line-requires-8
-line-requires-8 c κs = (c .before .before .before .before .before .before .before .before .before .before .before .before .before .before .before .before .before .before .before .pre .listed, lit≤ tt, lit≤ tt)
+line-requires-8 c κs = (c .before .before .before .before .before .before .before .before .before .before .before .before .before .before .before .before .before .before .pre .listed, lit≤ tt, lit≤ tt)
 
 line-requires-9 : tie.Need-line-requires-9
-line-requires-9 c κs = (c .before .before .before .before .before .before .before .before .before .before .before .before .before .before .before .before .before .before .before .before .pre .listed, lit≤ tt, lit≤ tt)
+line-requires-9 c κs = (c .before .before .before .before .before .before .before .before .before .before .before .before .before .before .before .before .before .before .before .pre .listed, lit≤ tt, lit≤ tt)
 
 paired-requires : tie.Need-paired-requires
 paired-requires c κs = search needs
@@ -94,7 +94,7 @@ returns-3 c =
     let at-third = at-fourth .before .before .before in
     let at-information = at-third .before .before .before .before .before in
     let at-reference = at-information .before .before .before .before .before .before in
-    let count = at-reference .before .before .before .before .before .pre .counted in
+    let count = at-reference .before .before .before .before .pre .counted in
     let kind = at-reference .before .before .line .ensures in
     let message = at-information .before .before .before .line3 .ensures in
     let billing = at-information .before .before .line4 .ensures in

@@ -16,10 +16,10 @@ use Rattle.swiss_rules.proofs.front.Tie as tie
 abbrev ls : tie.Start → List Bytes
 ls c = linesOf (cut (c .args .payload .now))
 
-header-is : (c : tie.After-header) → c .header .result ≡ finds header (ls (c .before .before .before .before .before .before))
+header-is : (c : tie.After-header) → c .header .result ≡ finds header (ls (c .before .before .before .before .before))
 header-is c = rw (c .before .line3 .ensures, c .before .before .line2 .ensures, c .before .before .before .line .ensures) at (c .header .ensures) ∙ of-header _
 
-account-is : (c : tie.After-account) → c .account .result ≡ finds account (ls (c .before .before .before .before .before .before .before .before .before .before))
+account-is : (c : tie.After-account) → c .account .result ≡ finds account (ls (c .before .before .before .before .before .before .before .before .before))
 account-is c = rw (c .before .line4 .ensures) at (c .account .ensures) ∙ of-account _
 
 line-requires : tie.Need-line-requires

@@ -13,7 +13,7 @@ use borrow.Author.Needs.{needs}
 use Rattle.swiss_rules.proofs.middle.Statement.{statement}
 use Rattle.swiss_rules.proofs.middle.Tie as tie
 
-payment-is : (c : tie.After-payment) → c .payment .result ≡ finds payment (linesOf (cut (c .before .before .before .before .before .before .before .before .args .payload .now)))
+payment-is : (c : tie.After-payment) → c .payment .result ≡ finds payment (linesOf (cut (c .before .before .before .before .before .before .before .args .payload .now)))
 payment-is c = rw (c .before .line2 .ensures, c .before .before .line .ensures) at (c .payment .ensures) ∙ of-payment _
 
 reserved-requires : tie.Need-reserved-requires

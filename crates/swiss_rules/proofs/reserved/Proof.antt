@@ -38,13 +38,13 @@ empty-requires-5 : tie.Need-empty-requires-5
 empty-requires-5 c κs = search needs
 
 line-requires-6 : tie.Need-line-requires-6
-line-requires-6 c κs = (c .before .before .before .before .before .before .before .before .before .before .before .before .pre, lit≤ tt, lit≤ tt)
+line-requires-6 c κs = (c .before .before .before .before .before .before .before .before .before .before .before .pre, lit≤ tt, lit≤ tt)
 
 empty-requires-6 : tie.Need-empty-requires-6
 empty-requires-6 c κs = search needs
 
 line-requires-7 : tie.Need-line-requires-7
-line-requires-7 c κs = (c .before .before .before .before .before .before .before .before .before .before .before .before .before .before .pre, lit≤ tt, lit≤ tt)
+line-requires-7 c κs = (c .before .before .before .before .before .before .before .before .before .before .before .before .before .pre, lit≤ tt, lit≤ tt)
 
 empty-requires-7 : tie.Need-empty-requires-7
 empty-requires-7 c κs = search needs
