@@ -5,7 +5,7 @@ use sieve::Break;
 use sieve::Fault;
 use sieve::line_of;
 use sieve::number_of;
-use swiss_judge::judge;
+use swiss_judge::verdict;
 ghost use mathlib.Core.List.{_++_};
 ghost use mathlib.Core.Path.{_≡_};
 ghost use Prim.Native.Nat.{_+_, _≤_, _<_};
@@ -93,8 +93,7 @@ pub fn report(payload: &[u8], dest: &mut [u8]) -> usize
     ensures { λ _. ⌜ now (dest .exit) ≡ overFitting (now (dest .entry)) (spoken (verdict swiss (now (payload .entry)))) ⌝ }
     ensures { λ r. ⌜ r ≤ length (now (dest .exit)) ⌝ }
 {
-    let judged = judge(payload);
-    let answer = judged.answer;
+    let answer = verdict(payload);
     let mut line = [0u8; 32];
     let n = compose(&mut line, answer);
     lay(dest, &line[0..n])

@@ -45,7 +45,7 @@ module _ (d l : Bytes) where
   unfolding fitting
   room-for h = rw (le-leb _ _ h)
 
-  laid-in : length l ≤ length d → overFitting d l ≡ l ++ drop (length l) d
+  pub laid-in : length l ≤ length d → overFitting d l ≡ l ++ drop (length l) d
   unfolding overFitting
   laid-in h = rw (le-leb _ _ h)
 

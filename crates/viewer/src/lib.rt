@@ -1,6 +1,6 @@
 // A viewer: it keeps hold of a payload, and hands out line after line.
 use sieve::Answer;
-use swiss_judge::judge;
+use swiss_judge::verdict;
 use text::line_at;
 ghost use mathlib.Core.Path.{_≡_};
 ghost use Rattle.viewer.specs.View.{isDone, lineFrom, nextFrom, standing};
@@ -24,9 +24,7 @@ fn begin(payload: &[u8]) -> Begun
     ensures { λ r. ⌜ IsBegun (now (payload .entry)) r ⌝ }
 {
     let past = payload.len() + 1;
-    let judged = judge(payload);
-    let answer = judged.answer;
-    match answer {
+    match verdict(payload) {
         Answer::Accepted(n, k) => Begun {
             at: 0,
             answer: Answer::Accepted(n, k),

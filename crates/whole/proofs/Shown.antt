@@ -6,18 +6,20 @@ use mathlib.Core.List.{List, [], _∷_}
 use mathlib.Core.Option.{none}
 use mathlib.Core.Path.{_≡_, refl, sym, ap, _∙_}
 use lib.ListN.{length, take}
-use borrow.Author.Tests.{le-leb}
+use borrow.Author.Tests.{ltb-false, le-leb}
+use Rattle.sieve.specs.declared.Answer.the-variants.{Accepted}
 use Rattle.sieve.specs.declared.Break.{Break}
 use Rattle.sieve.specs.Bytes.{Bytes}
 use Rattle.sieve.specs.Lines.{cut, linesOf, breaksOf, kind, billOf, written}
 use Rattle.sieve.specs.Places.{Placed, placed, entries, placesOf, listSize}
 use Rattle.sieve.specs.Rules.{Layout}
-use Rattle.sieve.specs.Verdict.{accepted, verdict, findings, first, mixedBreaks}
+use Rattle.sieve.specs.Verdict.{findings, first, mixedBreaks}
 use Rattle.sieve.proofs.Accepts.{each-like, unmixed-written}
-use Rattle.sieve.proofs.Findings.{settled-accepts, verdict-is, clear}
+use Rattle.sieve.proofs.Findings.{found-none, settled-accepts, verdict-is, clear}
 use Rattle.text.specs.LinesIn.{linesIn}
 use Rattle.text.proofs.LinesLie.{lines-placed}
-use Rattle.lines.specs.Listed.{capacity, greatest, listed, listedShort}
+use Rattle.lines.specs.Listed.{capacity, greatest, listed}
+use Rattle.whole.specs.Judged.{judgedPlaces, IsJudged}
 
 -- the first entries are those of fewer lines
 fewer : (m n end : ℕ) (ls : List Placed) → m ≤ n → take (2 * m) (entries n end ls) ≡ entries m end ls
@@ -32,8 +34,11 @@ as-written : (p : Bytes) (m : ℕ) → mixedBreaks (breaksOf (cut p)) ≡ none �
 unfolding billOf
 as-written p m h = rw (unmixed-written p h, lines-placed p (kind (breaksOf (cut p))) (each-like p h))
 
-pub shown : (L : Layout) (p : Bytes) {n : ℕ} {k : Break} → verdict L p ≡ accepted n k → L .most-lines ≤ capacity → length p ≤ greatest → take (listSize L) (listedShort p) ≡ placesOf L (billOf p)
-unfolding listed placesOf
-shown L p h few short =
-    let all = clear L p (settled-accepts (billOf p) (first (findings L p)) (sym (verdict-is L p) ∙ h) .0) in
-    rw (le-leb (length p) greatest short) (fewer (L .most-lines) capacity (length p) (linesIn p) few ∙ as-written p (L .most-lines) (all .unmixed))
+module _ (L : Layout) (p : Bytes) {n : ℕ} {k : Break} {places : List ℕ} (is : IsJudged L p (Accepted n k) places) where
+  pub shown : L .most-lines ≤ capacity → L .most-bytes ≤ greatest → take (listSize L) places ≡ placesOf L (billOf p)
+  unfolding listed placesOf
+  shown few small =
+      let all = clear L p (settled-accepts (billOf p) (first (findings L p)) (sym (verdict-is L p) ∙ sym (is .answer)) .0) in
+      let short : length p ≤ L .most-bytes = ltb-false _ _ (found-none _ _ (all .not-too-many)) in
+      let walked : places ≡ listed p = is .places ∙ sym (ap (judgedPlaces p) (is .answer)) ∙ rw (le-leb (length p) greatest (omega arith)) in
+      rw walked (fewer (L .most-lines) capacity (length p) (linesIn p) few ∙ as-written p (L .most-lines) (all .unmixed))

@@ -18,8 +18,8 @@ use borrow.Author.Needs.{needs}
 use Rattle.report.proofs.report.Statement.{statement}
 use Rattle.report.proofs.report.Tie as tie
 
-judge-requires : tie.Need-judge-requires
-judge-requires c κs = search needs
+verdict-requires : tie.Need-verdict-requires
+verdict-requires c κs = search needs
 
 slice-aggregate-compose : tie.Need-slice-aggregate-compose
 slice-aggregate-compose c = search needs
@@ -30,7 +30,7 @@ short p (Accepted n k) e = let few = line-count p n k (sym e) in omega arith
 short p (Refused f) e = (omega (arith, low-number f), low-line p (paperFault f) (sym e))
 
 compose-requires : tie.Need-compose-requires
-compose-requires c κs = (short (c .before .before .before .before .args .payload .now) (c .before .judge .result .answer) (c .before .judge .ensures .answer), refl)
+compose-requires c κs = (short (c .before .before .before .before .args .payload .now) (c .before .verdict .result) (c .before .verdict .ensures), refl)
 
 sub-lay : tie.Need-sub-lay
 sub-lay c = search needs
@@ -50,9 +50,9 @@ same-length c = search needs
 returns : tie.Need-returns
 returns c =
     let f = c .before .before .before .before .before .before .before .compose in
-    let said : take (f .result - 0) (f .last .0) ≡ spoken (verdict swiss (c .before .before .before .before .before .before .before .before .before .before .before .before .args .payload .now)) = rw (sub-zero (f .result)) (f .ensures .1 ∙ ap spoken (c .before .before .before .before .before .before .before .before .before .judge .ensures .answer)) in
+    let said : take (f .result - 0) (f .last .0) ≡ spoken (verdict swiss (c .before .before .before .before .before .before .before .before .before .before .before .before .args .payload .now)) = rw (sub-zero (f .result)) (f .ensures .1 ∙ ap spoken (c .before .before .before .before .before .before .before .before .before .verdict .ensures)) in
     let l = c .before .before .lay in
     rw (← said) (l .ensures .0, (l .ensures .1, omega (arith, l .ensures .0, room-fits (c .before .before .before .before .before .before .before .before .before .before .before .before .args .dest .now) (take (f .result - 0) (f .last .0)))))
 
 pub report-spec : {M : Type 1} → statement M
-report-spec = tie.close (tie.spec judge-requires slice-aggregate-compose compose-requires sub-lay part-lay-start part-lay-end lay-requires same-length returns)
+report-spec = tie.close (tie.spec verdict-requires slice-aggregate-compose compose-requires sub-lay part-lay-start part-lay-end lay-requires same-length returns)

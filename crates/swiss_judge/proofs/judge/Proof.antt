@@ -31,7 +31,7 @@ enum-known-n c = search needs
 
 rules-requires : tie.Need-rules-requires
 unfolding swiss
-rules-requires c κs = 
+rules-requires c κs =
     let is = rw (c .before .before .n .given .1) at (c .before .before .before .before .whole .ensures) in
     let (listed-is, count-is) = counted swiss (c .before .before .before .before .before .before .before .args .payload .now) is (lit≤ tt) in
     record { listed = listed-is; counted = count-is }
@@ -44,7 +44,7 @@ fault-of-requires c κs = search needs
 
 returns : tie.Need-returns
 unfolding swiss
-returns c = 
+returns c =
     let at-test = c .before .before .before in
     let at-start = at-test .before .before .before .before .before .before .before .before .before .before in
     let is = rw (at-test .before .before .before .before .before .n .given .1) at (at-test .before .before .before .before .before .before .before .whole .ensures) in
@@ -58,7 +58,7 @@ returns-2 c = refused-whole swiss (c .before .before .before .before .before .be
 
 returns-3 : tie.Need-returns-3
 unfolding swiss
-returns-3 c = 
+returns-3 c =
     let at-start = c .before .before .before .before .before .before .before .before .before .before in
     let is = rw (c .before .before .before .before .before .n .given .1) at (c .before .before .before .before .before .before .before .whole .ensures) in
     let found = c .before .before .rules .ensures in
