@@ -1,6 +1,6 @@
 // Check digits of texts of any length: MOD 97-10, and modulo 10, recursive.
 ghost use mathlib.Core.Path.{_≡_};
-ghost use Prim.Native.Nat.{_+_, _-_, _%_, _^_, _≤_, _<_};
+ghost use Prim.Native.Nat.{_+_, _-_, _%_, _^_, _<_};
 ghost use lib.ListN.{take, getD};
 ghost use Rattle.sieve.specs.Letters.{digit};
 ghost use Rattle.sieve.specs.Mod97.{value, onto, number, remainder97, checks97};

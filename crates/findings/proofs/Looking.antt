@@ -11,7 +11,7 @@ use borrow.Author.Tests.{eqb-true, eqb-false, ne-eqb}
 use Rattle.sieve.specs.declared.Fault.{Fault}
 use Rattle.sieve.specs.Bytes.{Bytes, within}
 use Rattle.sieve.specs.Rules.{Rule}
-use Rattle.sieve.specs.Verdict.{Refusal, under, found, aboutLines, first}
+use Rattle.sieve.specs.Verdict.{Refusal, under, aboutLines, first}
 use Rattle.sieve.specs.Paper.{paperFault}
 use Rattle.sieve.proofs.Firsts.{first-append}
 use Rattle.sieve.proofs.Bounds.{is-within}

@@ -12,8 +12,8 @@ use Rattle.sieve.specs.Bytes.{Bytes}
 use Rattle.report.specs.Spoken.{digitByte, decimalIn, decimal}
 
 -- the front of a line, and a text behind it
-pub front : (n : ℕ) (d l rest : Bytes) → n ≤ length d → take (n + length l) (take n d ++ (l ++ rest)) ≡ take n d ++ l
-front n d l rest h =
+pub added-in-front : (n : ℕ) (d l rest : Bytes) → n ≤ length d → take (n + length l) (take n d ++ (l ++ rest)) ≡ take n d ++ l
+added-in-front n d l rest h =
     let e : length (take n d ++ l) ≡ n + length l = omega (arith, length-append (take n d) l, length-take-le n d h) in
     rw (← append-assoc (take n d) l rest, ← e) (take-append-seam (take n d ++ l) rest)
 

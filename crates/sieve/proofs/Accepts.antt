@@ -1,17 +1,17 @@
 -- The verdict of every layout with lawful characters accepts exactly its bills. Assumes nothing.
 use Prim.Native.Nat.{ℕ, _≤_}
 use native.Mathlib.Omega.{arith}
-use mathlib.Core.Bool.{true, false, not}
+use mathlib.Core.Bool.{false, not}
 use mathlib.Core.List.{List, [], _∷_, _++_, map, List·Memᴰ, List·Memᴰ·head, List·Memᴰ·tail, List·Memᴰ·not-nil, List·Memᴰ·cases-cons}
 use mathlib.Core.Logic.{_⊎_, inl, inr}
 use mathlib.Core.Option.{none, map-eq-none-iff}
 use mathlib.Core.Path.{_≡_, refl, sym, _∙_, ap}
-use lib.Dec.{eqb, leb, eqb·suc-zero}
+use lib.Dec.{eqb, eqb·suc-zero}
 use lib.ListN.{length}
 use borrow.Author.Tests.{ltb-false, le-ltb, le-leb, not-false}
 use Rattle.sieve.specs.declared.Break.{Break}
 use Rattle.sieve.specs.declared.Break.the-variants.{Lf, CrLf}
-use Rattle.sieve.specs.Bytes.{Bytes, within}
+use Rattle.sieve.specs.Bytes.{Bytes}
 use Rattle.sieve.specs.Lines.{Next, gluedAfter, Bill, cut, breakBytes, afterBreaks, joined, written, linesOf, breaksOf, kind, sameBreak, billOf}
 use Rattle.sieve.specs.Rules.{Layout}
 use Rattle.sieve.specs.Verdict.{mixedBreaks, accepted, findings, first, verdict}

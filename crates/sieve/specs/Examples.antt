@@ -1,5 +1,5 @@
 -- Worked examples of what every layout shares, which the prover computes: check digits, and lengths in characters. Assumes nothing.
-use mathlib.Core.Bool.{Bool, true, false, _&&_, not}
+use mathlib.Core.Bool.{Bool, _&&_, not}
 use mathlib.Core.List.{[], _∷_}
 use lib.Dec.{T}
 use Rattle.sieve.specs.Bytes.{Bytes, ascii}

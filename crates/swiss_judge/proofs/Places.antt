@@ -2,9 +2,8 @@
 use Prim.Native.Nat.{ℕ}
 use native.Mathlib.Omega.{arith}
 use mathlib.Core.List.{List}
-use mathlib.Core.Path.{_≡_, sym, ap, _∙_}
+use mathlib.Core.Path.{_≡_, sym, _∙_}
 use lib.Dec.{lit≤}
-use lib.ListN.{length, take}
 use lib.Seq.{take-all}
 use Rattle.sieve.specs.declared.Answer.the-variants.{Accepted}
 use Rattle.sieve.specs.declared.Break.{Break}

@@ -3,7 +3,7 @@ use sieve::Answer;
 use swiss_judge::verdict;
 use text::line_at;
 ghost use mathlib.Core.Path.{_≡_};
-ghost use Rattle.viewer.specs.View.{isDone, lineFrom, nextFrom, standing};
+ghost use Rattle.viewer.specs.View.{isDone, nextFrom, standing};
 ghost use Rattle.viewer.specs.Held.{IsBegun, IsOpened, IsLine, IsNext};
 
 // The payload, the place where the next line starts, and what the reader answers.

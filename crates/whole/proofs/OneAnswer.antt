@@ -1,5 +1,5 @@
 -- The contract of the public function leaves one answer. Assumes nothing.
-use mathlib.Core.Path.{refl, sym, ap, _∙_}
+use mathlib.Core.Path.{sym, ap, _∙_}
 use Rattle.sieve.specs.OneAnswer.{OneAnswer}
 use Rattle.sieve.proofs.PaperLosesNothing.{one-answer}
 use Rattle.whole.proofs as fn

@@ -1,5 +1,5 @@
 -- The list that a layout shows is the front of the list that the walk makes. Assumes nothing.
-use Prim.Native.Nat.{ℕ, zero, suc, _+_, _*_, _≤_, zero-le}
+use Prim.Native.Nat.{ℕ, zero, suc, _*_, _≤_}
 use native.Mathlib.Nat.{le-of-suc-le-suc, not-suc-le-zero}
 use native.Mathlib.Omega.{arith}
 use mathlib.Core.List.{List, [], _∷_}
@@ -10,7 +10,7 @@ use borrow.Author.Tests.{ltb-false, le-leb}
 use Rattle.sieve.specs.declared.Answer.the-variants.{Accepted}
 use Rattle.sieve.specs.declared.Break.{Break}
 use Rattle.sieve.specs.Bytes.{Bytes}
-use Rattle.sieve.specs.Lines.{cut, linesOf, breaksOf, kind, billOf, written}
+use Rattle.sieve.specs.Lines.{cut, breaksOf, kind, billOf, written}
 use Rattle.sieve.specs.Places.{Placed, placed, entries, placesOf, listSize}
 use Rattle.sieve.specs.Rules.{Layout}
 use Rattle.sieve.specs.Verdict.{findings, first, mixedBreaks}

@@ -19,7 +19,7 @@ use Rattle.sieve.specs.Latin.{latin}
 use Rattle.sieve.specs.Lines.{cut, linesOf, breaksOf, kind, sameBreak, billOf}
 use Rattle.sieve.specs.Paper.{paperFault, paper}
 use Rattle.sieve.specs.Rules.{Layout}
-use Rattle.sieve.specs.Verdict.{Refusal, under, underAt, accepted, refused, noBytes, tooManyBytes, badCharacter, mixedBreaks, lineCount, findings, first, settled, verdict}
+use Rattle.sieve.specs.Verdict.{under, accepted, refused, noBytes, tooManyBytes, badCharacter, mixedBreaks, lineCount, findings, first, settled, verdict}
 use Rattle.sieve.specs.Whole.{plain}
 use Rattle.sieve.proofs.Findings.{first-nil, verdict-is}
 use Rattle.sieve.proofs.Firsts.{passed, stopped}
@@ -27,7 +27,7 @@ use Rattle.lines.specs.declared.Parted.{Parted}
 use Rattle.lines.specs.declared.Parted.the-variants.{Alike, Unlike}
 use Rattle.lines.specs.declared.Told.{Told}
 use Rattle.lines.specs.declared.Walked.the-variants.{Clean, Bad}
-use Rattle.lines.specs.Listed.{room, listedShort}
+use Rattle.lines.specs.Listed.{room}
 use Rattle.lines.specs.Walking.{walked, parted, breaksIn, IsTold}
 use Rattle.whole.specs.Judged.{judgedPlaces, IsJudged, IsParted}
 

@@ -1,5 +1,5 @@
 -- `swiss_rules::front` meets its contract: group after group. Assumes nothing.
-use mathlib.Core.List.{List, [], _∷_, flatten}
+use mathlib.Core.List.{List, flatten}
 use mathlib.Core.Path.{_≡_, refl, _∙_}
 use Rattle.sieve.specs.Bytes.{Bytes}
 use Rattle.sieve.specs.Lines.{cut, linesOf}

@@ -1,7 +1,6 @@
 -- `swiss_rules::middle` meets its contract: group after group. Assumes nothing.
-use mathlib.Core.List.{List, [], _∷_, flatten}
+use mathlib.Core.List.{flatten}
 use mathlib.Core.Path.{_≡_, refl, _∙_}
-use Rattle.sieve.specs.Bytes.{Bytes}
 use Rattle.sieve.specs.Lines.{cut, linesOf}
 use Rattle.sieve.specs.Rules.{isEmpty}
 use Rattle.swiss.specs.Swiss.{reserved, payment, address}

@@ -10,7 +10,7 @@ use Rattle.sieve.specs.Paper.{paper, paperWritten}
 use Rattle.sieve.specs.Reading.{IsRead}
 use Rattle.sieve.specs.Writing.{IsWritten}
 use Rattle.swiss.specs.Swiss.{swiss}
-use Rattle.bench_calls.specs.Packing.{packedVerdict, packedLaying, IsSieveRead, IsSieveWritten}
+use Rattle.bench_calls.specs.Calls.{packedVerdict, packedLaying, IsSieveRead, IsSieveWritten}
 
 pub read-packs : {p : Bytes} {list after : List ℕ} {q r : Answer} {n : ℕ} → IsRead swiss p list q after → q ≡ r → n ≡ packedVerdict (paper r) → IsSieveRead p list n after
 read-packs h e m = record { number = m ∙ ap packedVerdict (sym (ap paper e) ∙ h .answer); lent = h .lent }
