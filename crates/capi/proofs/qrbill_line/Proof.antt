@@ -30,7 +30,8 @@ slice-aggregate-packed-place c = sym (judged-length (c .before .before .before .
 
 packed-place-requires : tie.Need-packed-place-requires
 packed-place-requires c κs =
-    let (least, most) = is-within 1 _ (c .before .before .before .before .before .before .before .args .line) (c .before .if1 .taken) in
+    let at-start = c .before .before .before .before .before .before .before in
+    let (least, most) = is-within 1 _ (at-start .args .line) (c .before .if1 .taken) in
     (judged-length (c .before .before .before .before .judge .ensures), least, most)
 
 returns : tie.Need-returns

@@ -56,7 +56,9 @@ remainder-after-requires-3 : tie.Need-remainder-after-requires-3
 remainder-after-requires-3 c κs = search needs
 
 returns-2 : tie.Need-returns-2
-returns-2 c = c .remainder-after3 .ensures ∙ moved (c .before .before .before .before .before .before .args .s .now) _ (c .before .before .remainder-after2 .ensures)
+returns-2 c =
+    let at-start = c .before .before .before .before .before .before in
+    c .remainder-after3 .ensures ∙ moved (at-start .args .s .now) _ (c .before .before .remainder-after2 .ensures)
 
 pub remainder97-spec : {M : Type 1} → statement M
 remainder97-spec =

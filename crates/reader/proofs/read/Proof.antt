@@ -37,7 +37,9 @@ returns c =
     so (accepted-no-room swiss _ _ _ _ verdict-is (c .if1 .taken)) refl refl
 
 slice-aggregate-fill : tie.Need-slice-aggregate-fill
-slice-aggregate-fill c = search (needs, sym (judged-length (c .before .before .before .before .before .before .judge .ensures)))
+slice-aggregate-fill c =
+    let at-judge = c .before .before .before .before .before .before in
+    search (needs, sym (judged-length (at-judge .judge .ensures)))
 
 fill-requires : tie.Need-fill-requires
 fill-requires c κs = search needs

@@ -49,10 +49,13 @@ same-length c = search needs
 
 returns : tie.Need-returns
 returns c =
-    let f = c .before .before .before .before .before .before .before .compose in
-    let said : take (f .result - 0) (f .last .0) ≡ spoken (verdict swiss (c .before .before .before .before .before .before .before .before .before .before .before .before .args .payload .now)) = rw (sub-zero (f .result)) (f .ensures .1 ∙ ap spoken (c .before .before .before .before .before .before .before .before .before .verdict .ensures)) in
+    let at-compose = c .before .before .before .before .before .before .before in
+    let at-verdict = at-compose .before .before in
+    let at-start = at-verdict .before .before .before in
+    let f = at-compose .compose in
+    let said : take (f .result - 0) (f .last .0) ≡ spoken (verdict swiss (at-start .args .payload .now)) = rw (sub-zero (f .result)) (f .ensures .1 ∙ ap spoken (at-verdict .verdict .ensures)) in
     let l = c .before .before .lay in
-    rw (← said) (l .ensures .0, (l .ensures .1, omega (arith, l .ensures .0, room-fits (c .before .before .before .before .before .before .before .before .before .before .before .before .args .dest .now) (take (f .result - 0) (f .last .0)))))
+    rw (← said) (l .ensures .0, (l .ensures .1, omega (arith, l .ensures .0, room-fits (at-start .args .dest .now) (take (f .result - 0) (f .last .0)))))
 
 pub report-spec : {M : Type 1} → statement M
 report-spec = tie.close (tie.spec verdict-requires slice-aggregate-compose compose-requires sub-lay part-lay-start part-lay-end lay-requires same-length returns)

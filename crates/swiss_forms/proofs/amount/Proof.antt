@@ -57,8 +57,11 @@ same-requires c κs = search needs
 
 returns-2 : tie.Need-returns-2
 returns-2 c =
-    let s = c .before .before .before .before .before .before .before .before .before .before .args .s .now in
-    rw (sub-zero (length s - 3), le-leb 4 _ (c .before .before .before .before .before .before .before .before .if1 .left), c .before .before .before .before .before .before .every .ensures, c .before .before .before .every2 .ensures, c .same .ensures, rest (length s - 2) s, sub-zero (length s - 3), length-take-le (length s - 3) s (omega arith))
+    let at-every = c .before .before .before .before .before .before in
+    let at-if-1 = at-every .before .before in
+    let at-start = at-if-1 .before .before in
+    let s = at-start .args .s .now in
+    rw (sub-zero (length s - 3), le-leb 4 _ (at-if-1 .if1 .left), at-every .every .ensures, c .before .before .before .every2 .ensures, c .same .ensures, rest (length s - 2) s, sub-zero (length s - 3), length-take-le (length s - 3) s (omega arith))
 
 pub amount-spec : {M : Type 1} → statement M
 amount-spec =

@@ -62,7 +62,10 @@ every-requires-2 : tie.Need-every-requires-2
 every-requires-2 c κs = search needs
 
 returns-2 : tie.Need-returns-2
-returns-2 c = rw (eq-eqb _ 21 (c .before .before .before .before .before .before .before .before .before .before .if1 .left), c .before .before .before .before .before .before .before .same .ensures, c .before .before .before .before .same2 .ensures, c .before .before .every .ensures, c .every2 .ensures)
+returns-2 c =
+    let at-same = c .before .before .before .before .before .before .before in
+    let at-if-1 = at-same .before .before .before in
+    rw (eq-eqb _ 21 (at-if-1 .if1 .left), at-same .same .ensures, c .before .before .before .before .same2 .ensures, c .before .before .every .ensures, c .every2 .ensures)
 
 pub iban-spec : {M : Type 1} → statement M
 iban-spec =

@@ -49,8 +49,10 @@ every-requires-2 c κs = search needs
 
 returns-2 : tie.Need-returns-2
 returns-2 c =
-    let s = c .before .before .before .before .before .before .before .before .before .args .s .now in
-    rw (le-leb 5 _ (c .before .before .before .before .before .before .before .if1 .left), c .before .before .before .before .same .ensures, c .before .before .every .ensures, c .every2 .ensures, rest 4 s)
+    let at-if-1 = c .before .before .before .before .before .before .before in
+    let at-start = at-if-1 .before .before in
+    let s = at-start .args .s .now in
+    rw (le-leb 5 _ (at-if-1 .if1 .left), c .before .before .before .before .same .ensures, c .before .before .every .ensures, c .every2 .ensures, rest 4 s)
 
 pub scor-spec : {M : Type 1} → statement M
 scor-spec =

@@ -31,8 +31,9 @@ enum-known-n c = search needs
 rules-requires : tie.Need-rules-requires
 unfolding swiss
 rules-requires c κs =
+    let at-start = c .before .before .before .before .before .before .before in
     let is = rw (c .before .before .n .given .1) at (c .before .before .before .before .whole .ensures) in
-    let (listed-is, count-is) = counted swiss (c .before .before .before .before .before .before .before .args .payload .now) is (lit≤ tt) in
+    let (listed-is, count-is) = counted swiss (at-start .args .payload .now) is (lit≤ tt) in
     record { listed = listed-is; counted = count-is }
 
 clear-requires : tie.Need-clear-requires
@@ -53,13 +54,16 @@ returns c =
 
 returns-2 : tie.Need-returns-2
 unfolding swiss
-returns-2 c = refused-whole swiss (c .before .before .before .before .before .before .args .payload .now) (rw (c .before .f .given .1) at (c .before .before .before .whole .ensures))
+returns-2 c =
+    let at-start = c .before .before .before .before .before .before in
+    refused-whole swiss (at-start .args .payload .now) (rw (c .before .f .given .1) at (c .before .before .before .whole .ensures))
 
 returns-3 : tie.Need-returns-3
 unfolding swiss
 returns-3 c =
+    let at-whole = c .before .before .before .before .before .before .before in
     let at-start = c .before .before .before .before .before .before .before .before .before .before in
-    let is = rw (c .before .before .before .before .before .n .given .1) at (c .before .before .before .before .before .before .before .whole .ensures) in
+    let is = rw (c .before .before .before .before .before .n .given .1) at (at-whole .whole .ensures) in
     let found = c .before .before .rules .ensures in
     kept swiss (at-start .args .payload .now) is (found-nothing (ls at-start) rules rules-numbered (rw found at (c .if1 .left)))
 

@@ -54,7 +54,9 @@ at-most-requires : tie.Need-at-most-requires
 at-most-requires c κs = search needs
 
 line-requires-3 : tie.Need-line-requires-3
-line-requires-3 c κs = (c .before .before .before .before .before .before .before .before .before .before .pre .0, omega arith, omega (arith, c .before .before .before .before .before .before .before .before .before .before .pre .2))
+line-requires-3 c κs =
+    let at-start = c .before .before .before .before .before .before .before .before .before .before in
+    (at-start .pre .0, omega arith, omega (arith, at-start .pre .2))
 
 empty-requires-2 : tie.Need-empty-requires-2
 empty-requires-2 c κs = search needs
@@ -63,7 +65,9 @@ at-most-requires-2 : tie.Need-at-most-requires-2
 at-most-requires-2 c κs = search needs
 
 line-requires-4 : tie.Need-line-requires-4
-line-requires-4 c κs = (c .before .before .before .before .before .before .before .before .before .before .before .before .before .pre .0, omega arith, omega (arith, c .before .before .before .before .before .before .before .before .before .before .before .before .before .pre .2))
+line-requires-4 c κs =
+    let at-start = c .before .before .before .before .before .before .before .before .before .before .before .before .before in
+    (at-start .pre .0, omega arith, omega (arith, at-start .pre .2))
 
 empty-requires-3 : tie.Need-empty-requires-3
 empty-requires-3 c κs = search needs
@@ -72,7 +76,9 @@ at-most-requires-3 : tie.Need-at-most-requires-3
 at-most-requires-3 c κs = search needs
 
 line-requires-5 : tie.Need-line-requires-5
-line-requires-5 c κs = (c .before .before .before .before .before .before .before .before .before .before .before .before .before .before .before .before .pre .0, omega arith, omega (arith, c .before .before .before .before .before .before .before .before .before .before .before .before .before .before .before .before .pre .2))
+line-requires-5 c κs =
+    let at-start = c .before .before .before .before .before .before .before .before .before .before .before .before .before .before .before .before in
+    (at-start .pre .0, omega arith, omega (arith, at-start .pre .2))
 
 empty-requires-4 : tie.Need-empty-requires-4
 empty-requires-4 c κs = search needs
@@ -84,7 +90,9 @@ at-most-requires-4 : tie.Need-at-most-requires-4
 at-most-requires-4 c κs = search needs
 
 line-requires-6 : tie.Need-line-requires-6
-line-requires-6 c κs = (c .before .before .before .before .before .before .before .before .before .before .before .before .before .before .before .before .before .before .before .before .pre .0, omega arith, omega (arith, c .before .before .before .before .before .before .before .before .before .before .before .before .before .before .before .before .before .before .before .before .pre .2))
+line-requires-6 c κs =
+    let at-start = c .before .before .before .before .before .before .before .before .before .before .before .before .before .before .before .before .before .before .before .before in
+    (at-start .pre .0, omega arith, omega (arith, at-start .pre .2))
 
 empty-requires-5 : tie.Need-empty-requires-5
 empty-requires-5 c κs = search needs
@@ -96,7 +104,9 @@ at-most-requires-5 : tie.Need-at-most-requires-5
 at-most-requires-5 c κs = search needs
 
 line-requires-7 : tie.Need-line-requires-7
-line-requires-7 c κs = (c .before .before .before .before .before .before .before .before .before .before .before .before .before .before .before .before .before .before .before .before .before .before .before .before .pre .0, omega arith, omega (arith, c .before .before .before .before .before .before .before .before .before .before .before .before .before .before .before .before .before .before .before .before .before .before .before .before .pre .2))
+line-requires-7 c κs =
+    let at-start = c .before .before .before .before .before .before .before .before .before .before .before .before .before .before .before .before .before .before .before .before .before .before .before .before in
+    (at-start .pre .0, omega arith, omega (arith, at-start .pre .2))
 
 empty-requires-6 : tie.Need-empty-requires-6
 empty-requires-6 c κs = search needs

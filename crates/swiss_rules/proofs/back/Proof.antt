@@ -61,7 +61,9 @@ at-most-requires : tie.Need-at-most-requires
 at-most-requires c κs = search needs
 
 line-requires-7 : tie.Need-line-requires-7
-line-requires-7 c κs = (c .before .before .before .before .before .before .before .before .before .before .before .before .before .before .before .pre .listed, lit≤ tt, lit≤ tt)
+line-requires-7 c κs =
+    let at-start = c .before .before .before .before .before .before .before .before .before .before .before .before .before .before .before in
+    (at-start .pre .listed, lit≤ tt, lit≤ tt)
 
 filled-requires-2 : tie.Need-filled-requires-2
 filled-requires-2 c κs = search needs
@@ -70,10 +72,14 @@ at-most-requires-2 : tie.Need-at-most-requires-2
 at-most-requires-2 c κs = search needs
 
 line-requires-8 : tie.Need-line-requires-8
-line-requires-8 c κs = (c .before .before .before .before .before .before .before .before .before .before .before .before .before .before .before .before .before .before .pre .listed, lit≤ tt, lit≤ tt)
+line-requires-8 c κs =
+    let at-start = c .before .before .before .before .before .before .before .before .before .before .before .before .before .before .before .before .before .before in
+    (at-start .pre .listed, lit≤ tt, lit≤ tt)
 
 line-requires-9 : tie.Need-line-requires-9
-line-requires-9 c κs = (c .before .before .before .before .before .before .before .before .before .before .before .before .before .before .before .before .before .before .before .pre .listed, lit≤ tt, lit≤ tt)
+line-requires-9 c κs =
+    let at-start = c .before .before .before .before .before .before .before .before .before .before .before .before .before .before .before .before .before .before .before in
+    (at-start .pre .listed, lit≤ tt, lit≤ tt)
 
 paired-requires : tie.Need-paired-requires
 paired-requires c κs = search needs

@@ -35,7 +35,11 @@ formed-requires-2 c κs = search needs
 
 returns : tie.Need-returns
 unfolding looked numbered
-returns c = rw (c .formed2 .ensures, c .before .same2 .ensures, c .before .before .before .same .ensures, c .before .before .before .before .before .filled .ensures, c .before .before .before .before .before .before .formed .ensures, c .before .before .before .before .before .before .before .amount .ensures, c .before .before .before .before .before .before .before .before .at-most .ensures) (looked-finds payment _ refl)
+returns c =
+    let at-formed = c .before .before .before .before .before .before in
+    let at-amount = at-formed .before in
+    let at-at-most = at-amount .before in
+    rw (c .formed2 .ensures, c .before .same2 .ensures, c .before .before .before .same .ensures, c .before .before .before .before .before .filled .ensures, at-formed .formed .ensures, at-amount .amount .ensures, at-at-most .at-most .ensures) (looked-finds payment _ refl)
 
 pub payment-spec : {M : Type 1} → statement M
 payment-spec =

@@ -47,7 +47,12 @@ checked-requires c κs = search needs
 
 returns : tie.Need-returns
 unfolding looked numbered
-returns c = rw (c .checked .ensures, c .before .formed2 .ensures, c .before .before .right-by-type .ensures .formed, c .before .before .right-by-type .ensures .checked, c .before .before .before .filled2 .ensures, c .before .before .before .before .empty .ensures, c .before .before .before .before .before .formed .ensures, c .before .before .before .before .before .before .filled .ensures, c .before .before .before .before .before .before .before .same3 .ensures, c .before .before .before .before .before .before .before .before .before .same2 .ensures, c .before .before .before .before .before .before .before .before .before .before .before .same .ensures) (looked-finds reference _ refl)
+returns c =
+    let at-filled = c .before .before .before .before .before .before in
+    let at-same-3 = at-filled .before in
+    let at-same-2 = at-same-3 .before .before in
+    let at-same = at-same-2 .before .before in
+    rw (c .checked .ensures, c .before .formed2 .ensures, c .before .before .right-by-type .ensures .formed, c .before .before .right-by-type .ensures .checked, c .before .before .before .filled2 .ensures, c .before .before .before .before .empty .ensures, c .before .before .before .before .before .formed .ensures, at-filled .filled .ensures, at-same-3 .same3 .ensures, at-same-2 .same2 .ensures, at-same .same .ensures) (looked-finds reference _ refl)
 
 pub reference-spec : {M : Type 1} → statement M
 reference-spec =

@@ -23,7 +23,9 @@ returns-2 : tie.Need-returns-2
 returns-2 c = let a = c .before .before .before .before .before .before .before in kept (a .args .limits) (a .args .payload .now) (a .pre) _ _ (c .before .before .before .before .parted2 .given .1) (c .if1 .taken)
 
 returns-3 : tie.Need-returns-3
-returns-3 c = let a = c .before .before .before .before .before .before .before .before .before in wrong-count (a .args .limits) (a .args .payload .now) (a .pre) _ _ (c .before .before .before .before .before .before .parted2 .given .1) (c .before .before .if1 .left) (c .refuse2 .ensures .0) (c .refuse2 .ensures .1)
+returns-3 c =
+    let at-parted-2 = c .before .before .before .before .before .before in
+    let a = c .before .before .before .before .before .before .before .before .before in wrong-count (a .args .limits) (a .args .payload .now) (a .pre) _ _ (at-parted-2 .parted2 .given .1) (c .before .before .if1 .left) (c .refuse2 .ensures .0) (c .refuse2 .ensures .1)
 
 pub judge-breaks-spec : {M : Type 1} → statement M
 judge-breaks-spec =
