@@ -46,6 +46,14 @@ too-many : (L : Layout) (p : Bytes) → L .most-bytes < length p → first (find
 unfolding findings
 too-many L p h = stopped _ (passed _ refl (rw (ne-eqb (length p) 0 (λ z. absurd (omega arith))))) (rw (lt-ltb (L .most-bytes) (length p) h))
 
+-- what a verdict says of what is found
+
+found-of : (L : Layout) (p : Bytes) (r : Refusal) → verdict L p ≡ refused r → first (findings L p) ≡ some r
+found-of L p r h = settled-refuses (billOf p) (first (findings L p)) r (sym (verdict-is L p) ∙ h)
+
+nothing-of : (L : Layout) (p : Bytes) (n : ℕ) (k : Break) → verdict L p ≡ accepted n k → first (findings L p) ≡ none
+nothing-of L p n k h = settled-accepts (billOf p) (first (findings L p)) (sym (verdict-is L p) ∙ h) .0
+
 -- the reader counts m lines and finds the break j: those that were handed over
 abbrev pub readAs : ℕ → Break → ℕ → Break → Bool
 readAs count k m j = eqb m count && eqb (length (breakBytes j)) (length (breakBytes k))
@@ -132,7 +140,7 @@ module _ {L : Layout} {text : Bytes} {list : List ℕ} {count : ℕ} {k : Break}
   too-many-bytes n f long h = refused-so TooManyBytes f (λ e. too-many L (bytesOf text list count k) (omega arith))
 
   pub reader-refuses : (q : Fault) → InText L text list count k dest → verdict L (bytesOf text list count k) ≡ refused (paperFault q) → (r : Written) → r ≡ refusal (firstStray text list count k) q → IsWritten L text list count k dest r dest
-  reader-refuses q f h = refused-so q f (λ e. settled-refuses (billOf (bytesOf text list count k)) (first (findings L (bytesOf text list count k))) (paperFault q) (sym (verdict-is L (bytesOf text list count k)) ∙ h))
+  reader-refuses q f h = refused-so q f (λ e. found-of L (bytesOf text list count k) (paperFault q) h)
 
   -- where the reader counts other lines or finds another break, a line holds a break
   pub read-otherwise : Suits L → (m : ℕ) (j : Break) (q : Fault) → InText L text list count k dest → verdict L (bytesOf text list count k) ≡ accepted m j → readAs count k m j ≡ false
@@ -152,11 +160,10 @@ module _ {L : Layout} {text : Bytes} {list : List ℕ} {count : ℕ} {k : Break}
       let (a, b) = and-eq-true-iff (eqb m count) _ .0 same in
       let all : m ≡ length (handed text list count) = eqb-true m count a ∙ sym (handed-length text list count) in
       let unstray = counted-unstray L k (handed text list count) (suits .lawful) (suits .two) (rw (all, one-break j k (eqb-true _ _ b)) at h) in
-      let nothing = settled-accepts (billOf (bytesOf text list count k)) (first (findings L (bytesOf text list count k))) (sym (verdict-is L (bytesOf text list count k)) ∙ h) .0 in
       record {
         inside = f .in-text .joinable .inside;
         bytes-are = f .bytes-are;
-        reached = passed _ (passed _ (f .in-text .reached) unstray) nothing;
+        reached = passed _ (passed _ (f .in-text .reached) unstray) (nothing-of L (bytesOf text list count k) m j h);
       }
 
   -- room

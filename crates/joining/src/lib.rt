@@ -46,7 +46,8 @@ pub fn first_outside(text: &[u8], list: &[u16], count: usize) -> Outside
     Outside::Nowhere
 }
 
-// How many bytes the lines come to when they are joined.
+// How many bytes the lines come to when they are joined. They are no more than 16 bits count, and each length has 16
+// bits, so that the sum is within a usize.
 pub fn joined_length(text: &[u8], list: &[u16], count: usize, k: Break) -> usize
     requires { ⌜ Joinable (now text) (now list) count ⌝ }
     ensures { λ r. ⌜ r ≡ length (bytesOf (now (text .entry)) (now (list .entry)) count k) ⌝ }
