@@ -2,7 +2,6 @@
 use Prim.Native.Nat.{ℕ, _≤_}
 use mathlib.Core.List.{List, _++_}
 use mathlib.Core.Path.{_≡_, sym, ap, _∙_}
-use lib.Dec.{lit≤}
 use lib.ListN.{length, drop}
 use Rattle.sieve.specs.declared.Break.{Break}
 use Rattle.sieve.specs.declared.Fault.{Fault}
@@ -14,12 +13,11 @@ use Rattle.sieve.specs.Verdict.{accepted, verdict}
 use Rattle.sieve.specs.Paper.{paperFault}
 use Rattle.sieve.specs.Places.{placesOf}
 use Rattle.sieve.specs.Keeps.{Keeps}
-use Rattle.sieve.specs.Writing.{spans, handed}
+use Rattle.sieve.specs.Writing.{spans, handed, IsWritten}
 use Rattle.sieve.proofs.PaperLosesNothing.{one-written}
 use Rattle.sieve.proofs.WriterPromises.{handedBill, NoneOutside, laid-written, laid-accepted, refused-unchanged, bill-laid, round-trip}
 use Rattle.swiss.specs.Swiss.{swiss}
-use Rattle.sieve.proofs.Latin.{lawful}
-use Rattle.sieve.specs.Writing.{IsWritten}
+use Rattle.writer.proofs.Suits.{suits}
 
 -- one answer, and one content of the destination
 pub one-writing : (text : Bytes) (list : List ℕ) (count : ℕ) (k : Break) (dest : Bytes) (q r : Written) (a b : Bytes)
@@ -36,8 +34,7 @@ module _ (text : Bytes) (list : List ℕ) (count : ℕ) (k : Break) (dest after 
 
   -- the reader accepts it and gives back the same lines and break: the bill keeps every rule
   pub written-is-accepted : (n : ℕ) → IsWritten swiss text list count k dest (Length n) after → (verdict swiss (written b) ≡ accepted count k) × (billOf (written b) ≡ b) × Keeps swiss b
-  unfolding swiss
-  written-is-accepted n h = laid-accepted swiss text list count k dest (λ ls. lawful) (lit≤ tt) n (sym (h .answer))
+  written-is-accepted n h = laid-accepted swiss text list count k dest (suits .lawful) (suits .two) n (sym (h .answer))
 
   -- a refusal changes nothing
   pub refusal-changes-nothing : (f : Fault) → IsWritten swiss text list count k dest (Refused f) after → after ≡ dest
@@ -49,13 +46,12 @@ pub bill-is-written : (b : Bill) (text : Bytes) (list : List ℕ) (dest after : 
     → (r ≡ Length (length (written b))) × (after ≡ written b ++ drop (length (written b)) dest)
 unfolding swiss
 bill-is-written b text list dest after r keeps size lines inside room h =
-    let e = bill-laid swiss (λ ls. lawful) (lit≤ tt) b text list dest keeps size lines inside room in
+    let e = bill-laid swiss (suits .lawful) (suits .two) b text list dest keeps size lines inside room in
     (one-written r _ (h .answer ∙ ap (λ d. d .answer) e), h .lent ∙ ap (λ d. d .lent) e)
 
 -- round trip: an accepted payload, with its own places, count and break, gives the payload again, given room
 pub payload-again : (p : Bytes) (n : ℕ) (k : Break) (rest : List ℕ) (dest after : Bytes) (r : Written) → verdict swiss p ≡ accepted n k → length p ≤ length dest
     → IsWritten swiss p (placesOf swiss (billOf p) ++ rest) n k dest r after → (r ≡ Length (length p)) × (after ≡ p ++ drop (length p) dest)
-unfolding swiss
 payload-again p n k rest dest after r h room w =
-    let e = round-trip swiss (λ ls. lawful) (lit≤ tt) p n k rest dest h room in
+    let e = round-trip swiss (suits .lawful) (suits .two) p n k rest dest h room in
     (one-written r _ (w .answer ∙ ap (λ d. d .answer) e), w .lent ∙ ap (λ d. d .lent) e)

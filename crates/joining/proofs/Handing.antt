@@ -8,22 +8,21 @@ use mathlib.Core.List.{List, [], _∷_, _++_, append-assoc}
 use mathlib.Core.Option.{Option, some, none, Option·none-ne-some, Option·map}
 use mathlib.Core.Path.{_≡_, refl, sym, ap, _∙_}
 use lib.Dec.{ltb}
-use lib.ListN.{length, getD, take, drop, length-append, length-drop, length-take}
-use lib.Seq.{getD-drop, drop-drop, take-add, take-at, drop-at, take-append-seam, drop-append-seam, length-take-le}
-use borrow.Rule.Slice.PartMut.{midOf, putMid}
+use lib.ListN.{length, getD, drop, length-append, length-take}
+use lib.Seq.{getD-drop, drop-drop}
+use mir.Syntax.{w16}
+use mir.Val.{Fits}
 use borrow.Author.Tests.{lt-ltb, le-ltb, ltb-true, ltb-false}
 use Rattle.sieve.specs.declared.Break.{Break}
 use Rattle.sieve.specs.Bytes.{Bytes, firstSuch}
-use Rattle.sieve.specs.Lines.{breakBytes, afterBreaks, joined}
+use Rattle.sieve.specs.Lines.{ofBreak, breakBytes, afterBreaks, joined}
 use Rattle.sieve.specs.Verdict.{Refusal, underAt}
 use Rattle.sieve.specs.Places.{placed}
-use Rattle.sieve.proofs.Findings.{such-at}
 use Rattle.sieve.specs.Writing.{outside, spans, handed, strayBreak}
+use Rattle.sieve.proofs.Cutting.{break-length}
 use Rattle.text.specs.declared.Stray.the-variants.{Nowhere, At}
 use Rattle.text.specs.Results.{strayAs}
-use Rattle.sieve.specs.Lines.{ofBreak}
-use Rattle.runs.proofs.Lays.{lent, back}
-use Rattle.writer.specs.Handing.{spanAt, lineAt, firstOutside, Inside, withBreak, breakIf}
+use Rattle.joining.specs.Handing.{spanAt, lineAt, firstOutside, Inside, bytesOf, withBreak, breakIf}
 
 -- the places of the entries from i on, and the lines there
 spans-next : (list : List ℕ) (count i : ℕ) → i < count → spans (count - i) (drop (2 * i) list) ≡ spanAt list i ∷ spans (count - (i + 1)) (drop (2 * (i + 1)) list)
@@ -36,13 +35,17 @@ spans-next list count i h =
 abbrev pub still : Bytes → List ℕ → ℕ → ℕ → List Bytes
 still text list count i = handed text (drop (2 * i) list) (count - i)
 
-pub next-line : (text : Bytes) (list : List ℕ) (count i : ℕ) → i < count → still text list count i ≡ lineAt text list i ∷ still text list count (i + 1)
-unfolding handed
-next-line text list count i h = rw (spans-next list count i h)
+module _ (text : Bytes) (list : List ℕ) (count : ℕ) where
+  pub from-start : still text list count 0 ≡ handed text list count
+  from-start = rw sub-zero
 
-pub no-line : (text : Bytes) (list : List ℕ) (count i : ℕ) → count ≤ i → still text list count i ≡ []
-unfolding handed spans
-no-line text list count i h = let z : count - i ≡ 0 = omega arith in rw z
+  next-line : (i : ℕ) → i < count → still text list count i ≡ lineAt text list i ∷ still text list count (i + 1)
+  unfolding handed
+  next-line i h = rw (spans-next list count i h)
+
+  pub no-line : (i : ℕ) → count ≤ i → still text list count i ≡ []
+  unfolding handed spans
+  no-line i h = let z : count - i ≡ 0 = omega arith in rw z
 
 -- places outside the text
 
@@ -80,9 +83,22 @@ module _ (text : Bytes) (list : List ℕ) (count : ℕ) where
   none-from e (suc i) h = rw (← add-one i) (inside-here i (omega arith) (none-from e i (omega arith)) .1)
 
   pub all-inside : 2 * count ≤ length list → firstOutside text list count ≡ none → Inside text list count
-  all-inside size e = record { there = size; inside = λ i h. inside-here i h (none-from e i (omega arith)) .0 }
+  all-inside size e i h = record { there = omega arith; inside = inside-here i h (none-from e i (omega arith)) .0 }
 
--- stray breaks, and the joined length
+-- from place `at` on, a line in hand, whose length was read from 16 bits, and the break after it
+
+-- i such lines, each with a break, end here at the latest
+abbrev pub latest : ℕ → ℕ
+latest i = 65537 * i
+
+module _ (text : Bytes) (list : List ℕ) (i : ℕ) {line : Bytes} (is : line ≡ lineAt text list i) (number : Fits w16 (getD list (2 * i + 1) 0)) where
+  pub short : length line < 65536
+  short = rw (is, length-take (getD list (2 * i + 1) 0) (drop (getD list (2 * i) 0) text)) (omega arith)
+
+  pub no-later : (k : Break) {b at : ℕ} → b ≡ length (breakBytes k) → at ≤ latest i → at + length line + b ≤ latest (i + 1)
+  no-later k e h = omega (arith, short, break-length k .1)
+
+-- stray breaks
 
 shifted : (f : ℕ → Bool) (a i : ℕ) (l : Bytes) → firstSuch f (a + i) l ≡ Option·map (λ j. a + j) (firstSuch f i l)
 unfolding firstSuch
@@ -92,10 +108,6 @@ shifted f a i (x ∷ l) = go (f x) refl (shifted f a (suc i) l)
     go : (b : Bool) → f x ≡ b → firstSuch f (a + suc i) l ≡ Option·map (λ j. a + j) (firstSuch f (suc i) l) → firstSuch f (a + i) (x ∷ l) ≡ Option·map (λ j. a + j) (firstSuch f i (x ∷ l))
     go true e ih = rw (e, firstSuch)
     go false e ih = let n : suc (a + i) ≡ a + suc i = omega arith in rw (e, n, firstSuch) ih
-
--- a line is no longer than its entry says
-pub line-short : (text : Bytes) (list : List ℕ) (i : ℕ) → length (lineAt text list i) ≤ getD list (2 * i + 1) 0
-line-short text list i = rw (length-take (getD list (2 * i + 1) 0) (drop (getD list (2 * i) 0) text)) (omega arith)
 
 -- what stray_break's answer says of the line
 
@@ -112,11 +124,6 @@ stray-none l h = go (firstSuch ofBreak 0 l) h
     go : (o : Option ℕ) → Nowhere ≡ strayAs o → o ≡ none
     go none e = refl
     go (some i) e = let z : _≡_ {A = ℕ} 0 1 = cc in absurd (omega arith)
-
-pub stray-within : (l : Bytes) (j : ℕ) → firstSuch ofBreak 0 l ≡ some j → j < length l
-stray-within l j h =
-    let s = such-at ofBreak 0 l j h in
-    omega (arith, s .place, ap length (s .whole), length-append (s .before) (s .such ∷ s .after))
 
 -- how long lines are with a break after each
 unfoldable pub breaksAll : Break → List Bytes → ℕ
@@ -138,9 +145,6 @@ module _ (text : Bytes) (list : List ℕ) (count : ℕ) (k : Break) where
   abbrev pub strayFrom : ℕ → ℕ → Option Refusal
   strayFrom i at = strayBreak (i + 1) (placed at k (still text list count i))
 
-  pub from-start : still text list count 0 ≡ handed text list count
-  from-start = rw sub-zero
-
   module _ (i at : ℕ) (h : i < count) where
     abbrev l : Bytes
     l = lineAt text list i
@@ -156,8 +160,14 @@ module _ (text : Bytes) (list : List ℕ) (count : ℕ) (k : Break) where
     unfolding strayBreak placed
     stray-later e = rw (next-line text list count i h, found-at none e, strayBreak) (rw (add-one (i + 1)))
 
-  pub all-breaks : 1 ≤ count → length (joined k (handed text list count)) + length (breakBytes k) ≡ breaksAll k (still text list count 0)
-  all-breaks h = rw (← from-start, next-line text list count 0 h) (one-break-more k (lineAt text list 0) (still text list count 1))
+  pub no-stray-left : (i at : ℕ) → count ≤ i → strayFrom i at ≡ none
+  unfolding strayBreak placed
+  no-stray-left i at h = rw (no-line text list count i h)
+
+  -- the joined length
+
+  pub all-breaks : 1 ≤ count → length (bytesOf text list count k) + length (breakBytes k) ≡ breaksAll k (still text list count 0)
+  all-breaks h = rw (← from-start text list count, next-line text list count 0 h) (one-break-more k (lineAt text list 0) (still text list count 1))
 
   pub length-here : (i : ℕ) → i < count → breaksAll k (still text list count i) ≡ length (lineAt text list i) + length (breakBytes k) + breaksAll k (still text list count (i + 1))
   unfolding breaksAll
@@ -167,10 +177,6 @@ module _ (text : Bytes) (list : List ℕ) (count : ℕ) (k : Break) where
   unfolding breaksAll
   no-bytes-left i h = rw (no-line text list count i h)
 
-  pub no-stray-left : (i at : ℕ) → count ≤ i → strayFrom i at ≡ none
-  unfolding strayBreak placed
-  no-stray-left i at h = rw (no-line text list count i h)
-
   -- what is still to be laid: a line with what comes after it, and then the rest
   pub joined-next : (i : ℕ) → i < count → joined k (still text list count i) ≡ withBreak (lineAt text list i) (breakIf (ltb (i + 1) count) k) ++ joined k (still text list count (i + 1))
   joined-next i h = go (ltb (i + 1) count) refl
@@ -178,35 +184,3 @@ module _ (text : Bytes) (list : List ℕ) (count : ℕ) (k : Break) where
       go : (b : Bool) → ltb (i + 1) count ≡ b → joined k (still text list count i) ≡ withBreak (lineAt text list i) (breakIf b k) ++ joined k (still text list count (i + 1))
       go true e = rw (next-line text list count i h, next-line text list count (i + 1) (ltb-true _ _ e)) (sym (append-assoc (lineAt text list i) (breakBytes k) _))
       go false e = rw (next-line text list count i h, no-line text list count (i + 1) (ltb-false _ _ e))
-
--- what comes next of the joined bytes J is laid in the tail of the destination, behind what is laid already
-module _ (J d₀ d w rest : Bytes) (n : ℕ) (e : drop n J ≡ w ++ rest) (in-J : n ≤ length J) (enough : length J ≤ length d₀) (size : length d ≡ length d₀) (is : d ≡ take n J ++ drop n d₀) where
-  bytes : n + length w + length rest ≡ length J
-  bytes = omega (arith, ap length e, length-append w rest, length-drop n J)
-
-  fits : n + length w ≤ length d
-  fits = omega (arith, bytes)
-
-  left : drop (n + length w) J ≡ rest
-  left = rw (← drop-drop (length w) n J, e) (drop-append-seam w rest)
-
-  laid-on : take n d ++ (w ++ drop (n + length w) d) ≡ take (n + length w) J ++ drop (n + length w) d₀
-  laid-on =
-      let front = length-take-le n J in-J in
-      let a : take n d ≡ take n J = rw is (take-at (take n J) (drop n d₀) n front) in
-      let b : drop (n + length w) d ≡ drop (n + length w) d₀ = rw (is, ← drop-drop (length w) n (take n J ++ drop n d₀), drop-at (take n J) (drop n d₀) n front) (drop-drop (length w) n d₀) in
-      let c : take (n + length w) J ≡ take n J ++ w = take-add n (length w) J ∙ rw (e, take-append-seam w rest) in
-      rw (a, b, c) (sym (append-assoc (take n J) w (drop (n + length w) d₀)))
-
-  long : length (take (n + length w) J ++ drop (n + length w) d₀) ≡ length d₀
-  long = omega (arith, bytes, length-append (take (n + length w) J) (drop (n + length w) d₀), length-take-le (n + length w) J (omega (arith, bytes)), length-drop (n + length w) d₀)
-
-  pub in-tail : (v : Bytes) → v ≡ w → length v ≤ length (midOf n (length d - n) d)
-  in-tail v same = rw (same, lent n d) (omega (arith, fits, length-drop n d))
-
-  pub laid-behind : (r : ℕ) (t v : Bytes) → v ≡ w → r ≡ length v → t ≡ v ++ drop (length v) (midOf n (length d - n) d)
-      → (n + r ≤ length J) × (drop (n + r) J ≡ rest) × (putMid n (length d - n) d t ≡ take (n + r) J ++ drop (n + r) d₀) × (length (putMid n (length d - n) d t) ≡ length d₀)
-  laid-behind r t v same r-is t-is =
-      let q : r ≡ length w = rw (r-is, same) in
-      let whole : putMid n (length d - n) d t ≡ take (n + length w) J ++ drop (n + length w) d₀ = back n d t ∙ rw (t-is, same, lent n d, drop-drop (length w) n d) laid-on in
-      rw q (omega (arith, bytes), left, whole, rw whole long)
