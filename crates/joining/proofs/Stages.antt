@@ -1,9 +1,9 @@
 -- What the findings of the writer of any layout leave of its answer, at each of its stages. Assumes nothing.
-use Prim.Native.Nat.{ℕ, suc, _≤_, _<_}
+use Prim.Native.Nat.{ℕ, _≤_, _<_}
 use native.Mathlib.Omega.{arith}
 use mathlib.Core.Bool.{Bool, true, false, true≢false, not, _&&_, and-eq-true-iff}
 use mathlib.Core.List.{List, [], _∷_}
-use mathlib.Core.Option.{Option, some, none, Option·getD, Option·none-ne-some}
+use mathlib.Core.Option.{Option, some, none, Option·getD}
 use mathlib.Core.Path.{_≡_, refl, sym, ap, _∙_}
 use lib.Dec.{eqb}
 use lib.ListN.{length}
@@ -14,32 +14,23 @@ use Rattle.sieve.specs.declared.Fault.{Fault}
 use Rattle.sieve.specs.declared.Fault.the-variants.{TooManyBytes, BadCharacter, LineCount, OutsideText, NoRoom}
 use Rattle.sieve.specs.declared.Written.{Written}
 use Rattle.sieve.specs.declared.Written.the-variants.{Length, Refused}
-use Rattle.sieve.specs.Bytes.{Bytes, within, firstSuch, over}
-use Rattle.sieve.specs.Lines.{breakBytes, ofBreak, billOf}
+use Rattle.sieve.specs.Bytes.{Bytes, within, over}
+use Rattle.sieve.specs.Lines.{breakBytes, billOf}
 use Rattle.sieve.specs.Rules.{Layout}
-use Rattle.sieve.specs.Verdict.{Refusal, under, underAt, accepted, refused, findings, found, first, verdict}
+use Rattle.sieve.specs.Verdict.{Refusal, under, accepted, refused, findings, found, first, verdict}
 use Rattle.sieve.specs.Paper.{paperFault}
-use Rattle.sieve.specs.Places.{Placed, placed, listSize}
+use Rattle.sieve.specs.Places.{placed, listSize}
 use Rattle.sieve.specs.Reading.{noRoom}
 use Rattle.sieve.specs.Writing.{spans, handed, outsideText, strayBreak, writeFindings, writeAnswer, IsWritten}
 use Rattle.sieve.proofs.Bounds.{is-within}
 use Rattle.sieve.proofs.Findings.{first-nil, settled-accepts, settled-refuses, verdict-is}
+use Rattle.sieve.proofs.Strays.{stray-found}
 use Rattle.sieve.proofs.Firsts.{passed, stopped}
 use Rattle.sieve.proofs.WriterPromises.{handed-length, unstray-counted, counted-unstray}
 use Rattle.joining.specs.declared.Outside.the-variants.{Nowhere, At}
 use Rattle.joining.specs.Handing.{outsideAs, firstOutside, bytesOf, strayByteAs, firstStray, refusal}
 use Rattle.joining.specs.Stages.{Suits, Reached, fromStray, InText, Joined, Readable}
 use Rattle.joining.proofs.Handing.{all-inside}
-
--- a stray break is refused under 3, with the byte's place
-stray-three : (i : ℕ) (ls : List Placed) (r : Refusal) → strayBreak i ls ≡ some r → r ≡ underAt 3 (r .line) (Option·getD (r .place) 0)
-unfolding strayBreak
-stray-three i [] r h = absurd (Option·none-ne-some r h)
-stray-three i (l ∷ ls) r h = go (firstSuch ofBreak (l .start) (l .text)) refl (stray-three (suc i) ls r)
-  where
-    go : (o : Option ℕ) → firstSuch ofBreak (l .start) (l .text) ≡ o → (strayBreak (suc i) ls ≡ some r → r ≡ underAt 3 (r .line) (Option·getD (r .place) 0)) → r ≡ underAt 3 (r .line) (Option·getD (r .place) 0)
-    go none e ih = ih (rw (e, strayBreak) at h)
-    go (some at) e ih = let q : _≡_ {A = Option Refusal} (some (underAt 3 i at)) (some r) = rw (e, strayBreak) at h in let s : underAt 3 i at ≡ r = cc in rw (← s)
 
 -- more bytes than a layout allows are found under 2
 too-many : (L : Layout) (p : Bytes) → L .most-bytes < length p → first (findings L p) ≡ some (under 2 0)
@@ -134,7 +125,7 @@ module _ {L : Layout} {text : Bytes} {list : List ℕ} {count : ℕ} {k : Break}
     where
       go : (o : Option Refusal) → strayBreak 1 (placed 0 k (handed text list count)) ≡ o → IsWritten L text list count k dest (refusal (strayByteAs o) q) dest
       go none e = refuses q (stopped _ (passed _ (f .reached) e) (h e))
-      go (some s) e = refuses (BadCharacter (s .line) (Option·getD (s .place) 0)) (stopped _ (f .reached) (e ∙ ap some (stray-three 1 _ s e)))
+      go (some s) e = refuses (BadCharacter (s .line) (Option·getD (s .place) 0)) (stopped _ (f .reached) (e ∙ ap some (stray-found 1 _ s e .is)))
 
   pub too-many-bytes : (n : ℕ) → InText L text list count k dest → n ≡ length (bytesOf text list count k) → L .most-bytes < n → (r : Written) → r ≡ refusal (firstStray text list count k) TooManyBytes → IsWritten L text list count k dest r dest
   too-many-bytes n f long h = refused-so TooManyBytes f (λ e. too-many L (bytesOf text list count k) (omega arith))
