@@ -49,10 +49,11 @@ module _ (d l : Bytes) where
   unfolding overFitting
   laid-in h = rw (le-leb _ _ h)
 
+  pub copied : length l ≤ length d → {i : ℕ} {e : Bytes} → i ≡ length l → e ≡ take i l ++ drop i d → (i ≡ fitting d l) × (e ≡ overFitting d l)
+  copied h q is = (rw (room-for h) q, is ∙ rw (laid-in h, q, take-length))
+
   pub all-laid : length l ≤ length d → {i : ℕ} {e : Bytes} → length l ≤ i → Laying d l i e → (i ≡ fitting d l) × (e ≡ overFitting d l)
-  all-laid h {i} k m =
-      let q : i ≡ length l = le-antisymm (m .few) k in
-      (rw (room-for h) q, m .is ∙ rw (laid-in h, q, take-length))
+  all-laid h k m = copied h (le-antisymm (m .few) k) (m .is)
 
   -- what is laid is within the destination
   pub room-fits : fitting d l ≤ length d

@@ -1,4 +1,5 @@
 // Runs of bytes: counting, comparing and copying them.
+use bytes::copy;
 ghost use mathlib.Core.Path.{_≡_};
 ghost use mathlib.Core.Bool.{cond};
 ghost use Prim.Native.Nat.{_+_};
@@ -114,12 +115,7 @@ pub fn lay(dest: &mut [u8], bytes: &[u8]) -> usize
     if dest.len() < bytes.len() {
         return 0;
     }
-    let mut i = 0;
-    while i < bytes.len() {
-        dest[i] = bytes[i];
-        i += 1;
-    }
-    i
+    copy(bytes, dest)
 }
 
 // The same of numbers: copies them to the front of a list.

@@ -1,4 +1,4 @@
--- `runs::fill` meets its contract, as `lay` does. Assumes nothing.
+-- `runs::fill` meets its contract, number by number. Assumes nothing.
 use Prim.Native.Nat.{_-_}
 use lib.ListN.{length}
 use borrow.Author.Needs.{needs}
