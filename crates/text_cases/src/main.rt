@@ -90,7 +90,8 @@ fn write_place(s: &[u8], n: usize) {
 }
 
 fn write_answer(s: &[u8]) {
-    let told = lines::walk(s);
+    let mut places = [0; 68];
+    let told = lines::walk(s, &mut places);
     let walked = told.walked;
     let parted = told.parted;
     write_walked(walked);
