@@ -27,8 +27,8 @@ use Rattle.sieve.proofs.Placing.{length-placed}
 use Rattle.sieve.proofs.WriterPromises.{handed-length, laid-written, laid-accepted}
 use Rattle.swiss.specs.Swiss.{swiss}
 use Rattle.sieve.proofs.Latin.{lawful}
-use Rattle.sieve.proofs.Numbers.{Low, low-first, low-found}
-use Rattle.swiss.proofs.Numbers.{low-findings, low-line, line-count}
+use Rattle.sieve.proofs.Numbers.{Each, each-first, each-found}
+use Rattle.swiss.proofs.Numbers.{small-findings, low-line, line-count}
 use Rattle.bench_calls.specs.Calls.{mark}
 
 -- the reader
@@ -58,11 +58,15 @@ low-mark CrLf = lit≤ tt
 
 -- the writer
 
+-- what is found names a line below 1000
+abbrev Low : Option Refusal → Type 0
+Low = Each (λ r. r .line < 1000)
+
 low-nil : Low (first [])
 low-nil r e = absurd (Option·none-ne-some r (sym first-nil ∙ e))
 
 low-room : (room wanted : ℕ) → Low (noRoom room wanted)
-low-room room wanted = low-found (ltb room wanted) (under 15 0) (lit≤ tt)
+low-room room wanted = each-found (λ r. r .line < 1000) (ltb room wanted) (under 15 0) (lit≤ tt)
 
 module _ (text : Bytes) (list : List ℕ) (count : ℕ) (few : count < 1000) where
   low-outside : Low (outsideText text (spans count list))
@@ -82,12 +86,12 @@ module _ (text : Bytes) (list : List ℕ) (count : ℕ) (few : count < 1000) whe
     low-write : (room : ℕ) → Low (first (writeFindings swiss text list count k room))
     unfolding writeFindings
     low-write room =
-        low-first _ _ (low-room (length list) (listSize swiss))
-        (low-first _ _ (low-found (not (within (swiss .fewest-lines) (swiss .most-lines) count)) (under 5 count) (omega arith))
-        (low-first _ _ low-outside
-        (low-first _ _ low-stray
-        (low-first _ _ (low-findings _)
-        (low-first _ _ (low-room room _) low-nil)))))
+        each-first _ _ (low-room (length list) (listSize swiss))
+        (each-first _ _ (each-found (λ r. r .line < 1000) (not (within (swiss .fewest-lines) (swiss .most-lines) count)) (under 5 count) (omega arith))
+        (each-first _ _ low-outside
+        (each-first _ _ low-stray
+        (each-first _ _ (λ r e. small-findings _ r e .line)
+        (each-first _ _ (low-room room _) low-nil)))))
 
 module _ {text dest after : Bytes} {list : List ℕ} {count : ℕ} {k : Break} {w : Written} (h : IsWritten swiss text list count k dest w after) where
   pub write-line : {f : Fault} → count < 1000 → w ≡ NotWritten f → paperFault f .line < 1000

@@ -24,3 +24,9 @@ module _ {found o : Option Refusal} (os : List (Option Refusal)) (h : Hangs foun
   pub stopped : {r : Refusal} → o ≡ some r → found ≡ some r
   unfolding first
   stopped e = h ∙ rw (e, first)
+
+-- one finding alone
+pub alone : (o : Option Refusal) → first (o ∷ []) ≡ o
+unfolding first
+alone none = refl
+alone (some r) = refl

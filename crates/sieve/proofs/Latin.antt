@@ -43,13 +43,13 @@ plain false false true s f g h = h refl
 plain false false false s f g h = no-more
 
 -- a width of 1 is told by the first byte, and a width of 2 by the first two
-one-told : (a b c : Bool) → _≡_ {A = ℕ} (cond a 1 (cond b 2 (cond c 3 0))) 1 → a ≡ true
+pub one-told : (a b c : Bool) → _≡_ {A = ℕ} (cond a 1 (cond b 2 (cond c 3 0))) 1 → a ≡ true
 one-told true b c h = refl
 one-told false true c h = absurd (omega arith)
 one-told false false true h = absurd (omega arith)
 one-told false false false h = absurd (omega arith)
 
-two-told : (a b c : Bool) → _≡_ {A = ℕ} (cond a 1 (cond b 2 (cond c 3 0))) 2 → (a ≡ false) × (b ≡ true)
+pub two-told : (a b c : Bool) → _≡_ {A = ℕ} (cond a 1 (cond b 2 (cond c 3 0))) 2 → (a ≡ false) × (b ≡ true)
 two-told true b c h = absurd (omega arith)
 two-told false true c h = (refl, refl)
 two-told false false true h = absurd (omega arith)

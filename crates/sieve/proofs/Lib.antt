@@ -2,6 +2,7 @@ pub mod Bounds
 pub mod Heads
 pub mod Likeness
 pub mod Latin
+pub mod Counting
 pub mod LineFeeds
 pub mod Cutting
 pub mod Widths
@@ -18,4 +19,6 @@ pub mod PaperLosesNothing
 pub mod ReaderPromises
 pub mod Strays
 pub mod WriterPromises
+pub mod Together
+pub mod Room
 pub mod OneAnswer

@@ -1,13 +1,13 @@
--- What a verdict names is small: a refusal's line is below 1000, its number at most 15, and a bill has as many lines as its layout allows. Assumes nothing.
+-- What a verdict names is small: a refusal's line is below 1000, its number at most 13, and a bill has as many lines as its layout allows. Assumes nothing.
 use Prim.Native.Nat.{ℕ, _+_, _≤_, _<_}
 use native.Mathlib.Omega.{arith}
 use mathlib.Core.Bool.{Bool, true, false, _&&_, not, and-eq-true-iff}
 use mathlib.Core.List.{List, [], _∷_, _++_, map}
 use mathlib.Core.Option.{Option, some, none, Option·map, Option·none-ne-some}
 use mathlib.Core.Path.{_≡_, refl, sym, ap, _∙_}
-use lib.Dec.{eqb, ltb, lit≤}
+use lib.Dec.{eqb, ltb, leb, lit≤}
 use lib.ListN.{length, take, length-map, length-append, length-take}
-use borrow.Author.Tests.{ltb-true, ltb-false}
+use borrow.Author.Tests.{ltb-true, ltb-false, leb-true}
 use Rattle.sieve.specs.declared.Break.{Break}
 use Rattle.sieve.specs.declared.Fault.{Fault}
 use Rattle.sieve.specs.declared.Fault.the-variants.{NoBytes, TooManyBytes, BadCharacter, MixedBreaks, LineCount, NotFixedText, NotEmpty, Missing, TooLong, BadForm, BadCheckDigits, Unpaired, TooLongTogether, OutsideText, NoRoom}
@@ -23,31 +23,37 @@ use Rattle.sieve.proofs.DemandThree.{any-bytes}
 use Rattle.sieve.proofs.Findings.{settled-refuses, verdict-is, such-within}
 use Rattle.sieve.proofs.LineFeeds.{feeds-few}
 
--- what is found names a line below 1000
-abbrev pub Low : Option Refusal → Type 0
-Low o = (r : Refusal) → o ≡ some r → r .line < 1000
+-- what is found is so
+abbrev pub Each : (Refusal → Type 0) → Option Refusal → Type 0
+Each P o = (r : Refusal) → o ≡ some r → P r
 
-pub low-first : (o : Option Refusal) (os : List (Option Refusal)) → Low o → Low (first os) → Low (first (o ∷ os))
+pub each-first : {P : Refusal → Type 0} (o : Option Refusal) (os : List (Option Refusal)) → Each P o → Each P (first os) → Each P (first (o ∷ os))
 unfolding first
-low-first none os h k r e = k r e
-low-first (some q) os h k r e = h r e
+each-first none os h k r e = k r e
+each-first (some q) os h k r e = h r e
 
-pub low-found : (b : Bool) (q : Refusal) → q .line < 1000 → Low (found b q)
-low-found true q h r e = let s : q ≡ r = cc in rw (← s) h
-low-found false q h r e = let z : _≡_ {A = ℕ} 0 1 = cc in absurd (omega arith)
+pub each-found : (P : Refusal → Type 0) (b : Bool) (q : Refusal) → P q → Each P (found b q)
+each-found P true q h r e = let s : q ≡ r = cc in rw (← s) h
+each-found P false q h r e = let z : _≡_ {A = ℕ} 0 1 = cc in absurd (omega arith)
 
--- rules about lines name a line of the bill
+-- a line below 1000, and a number that a verdict may have: 14 and 15 are none
+pub record Small (r : Refusal) : Type 0 where
+  pub line : r .line < 1000
+  pub number : r .number ≤ 13
 
-unfoldable pub lowRules : List Rule → Bool
-lowRules [] = true
-lowRules (r ∷ rs) = ltb (r .line) 1000 && lowRules rs
+-- rules about lines name a line of the bill, and have a number of the sieve
 
-rules-low : (ls : List Bytes) (rs : List Rule) → lowRules rs ≡ true → Low (first (map (aboutLines ls) rs))
-unfolding lowRules first
-rules-low ls [] h = λ r e. absurd (Option·none-ne-some r e)
-rules-low ls (q ∷ rs) h =
+unfoldable pub smallRules : List Rule → Bool
+smallRules [] = true
+smallRules (r ∷ rs) = (ltb (r .line) 1000 && leb (r .number) 13) && smallRules rs
+
+rules-small : (ls : List Bytes) (rs : List Rule) → smallRules rs ≡ true → Each Small (first (map (aboutLines ls) rs))
+unfolding smallRules first
+rules-small ls [] h = λ r e. absurd (Option·none-ne-some r e)
+rules-small ls (q ∷ rs) h =
     let (a, b) = and-eq-true-iff _ _ .0 h in
-    low-first (aboutLines ls q) (map (aboutLines ls) rs) (low-found (q .broken ls) (under (q .number) (q .line)) (ltb-true _ _ a)) (rules-low ls rs b)
+    let (line, number) = and-eq-true-iff _ _ .0 a in
+    each-first (aboutLines ls q) (map (aboutLines ls) rs) (each-found Small (q .broken ls) (under (q .number) (q .line)) (record { line = ltb-true _ _ line; number = leb-true _ _ number })) (rules-small ls rs b)
 
 -- a payload has no more breaks than bytes
 
@@ -65,52 +71,54 @@ few-after (n ∷ ns) =
 few-breaks : (p : Bytes) → length (cut p .rest) ≤ length p
 few-breaks p = omega (arith, few-after (cut p .rest), ap length (any-bytes p), length-append (cut p .first) (gluedAfter (cut p .rest)))
 
--- over a layout of fewer than 999 bytes, whose rules name small lines
-module _ (L : Layout) (few : L .most-bytes < 999) (low : lowRules (L .rules) ≡ true) (p : Bytes) where
+-- over a layout of fewer than 999 bytes, with such rules
+module _ (L : Layout) (few : L .most-bytes < 999) (small : smallRules (L .rules) ≡ true) (p : Bytes) where
   abbrev ls : List Bytes
   ls = linesOf (cut p)
 
   module _ (short : length p ≤ L .most-bytes) where
-    low-character : Low (badCharacter L p ls)
-    low-character r e = go (badPlace (L .width ls) p) e
+    small-character : Each Small (badCharacter L p ls)
+    small-character r e = go (badPlace (L .width ls) p) e
       where
-        go : (o : Option ℕ) → Option·map (λ at. underAt 3 (1 + lineFeeds (take at p)) at) o ≡ some r → r .line < 1000
+        go : (o : Option ℕ) → Option·map (λ at. underAt 3 (1 + lineFeeds (take at p)) at) o ≡ some r → Small r
         go none h = absurd (Option·none-ne-some r h)
-        go (some at) h = let s : underAt 3 (1 + lineFeeds (take at p)) at ≡ r = cc in rw (← s) (omega (arith, feeds-few (take at p), length-take at p))
+        go (some at) h = let s : underAt 3 (1 + lineFeeds (take at p)) at ≡ r = cc in rw (← s) (record { line = omega (arith, feeds-few (take at p), length-take at p); number = lit≤ tt })
 
-    low-breaks : Low (mixedBreaks (breaksOf (cut p)))
-    low-breaks r e = go (firstSuch (λ k. not (sameBreak (kind (breaksOf (cut p))) k)) 1 (breaksOf (cut p))) refl e
+    small-breaks : Each Small (mixedBreaks (breaksOf (cut p)))
+    small-breaks r e = go (firstSuch (λ k. not (sameBreak (kind (breaksOf (cut p))) k)) 1 (breaksOf (cut p))) refl e
       where
-        go : (o : Option ℕ) → firstSuch (λ k. not (sameBreak (kind (breaksOf (cut p))) k)) 1 (breaksOf (cut p)) ≡ o → Option·map (under 4) o ≡ some r → r .line < 1000
+        go : (o : Option ℕ) → firstSuch (λ k. not (sameBreak (kind (breaksOf (cut p))) k)) 1 (breaksOf (cut p)) ≡ o → Option·map (under 4) o ≡ some r → Small r
         go none f h = absurd (Option·none-ne-some r h)
         go (some i) f h =
             let s : under 4 i ≡ r = cc in
-            rw (← s) (omega (arith, few-breaks p, such-within _ 1 (breaksOf (cut p)) i f, length-map (cut p .rest) (λ (n : Next). n .break)))
+            rw (← s) (record { line = omega (arith, few-breaks p, such-within _ 1 (breaksOf (cut p)) i f, length-map (cut p .rest) (λ (n : Next). n .break)); number = lit≤ tt })
 
-    low-count : Low (lineCount L ls)
-    low-count = low-found (not (within (L .fewest-lines) (L .most-lines) (length ls))) (under 5 (length ls)) (omega (arith, few-breaks p, length-map (cut p .rest) (λ (n : Next). n .line)))
+    small-count : Each Small (lineCount L ls)
+    small-count =
+        each-found Small (not (within (L .fewest-lines) (L .most-lines) (length ls))) (under 5 (length ls))
+        (record { line = omega (arith, few-breaks p, length-map (cut p .rest) (λ (n : Next). n .line)); number = lit≤ tt })
 
   abbrev later : List (Option Refusal)
   later = badCharacter L p ls ∷ mixedBreaks (breaksOf (cut p)) ∷ lineCount L ls ∷ map (aboutLines ls) (L .rules)
 
-  low-later : length p ≤ L .most-bytes → Low (first later)
-  low-later short = low-first _ _ (low-character short) (low-first _ _ (low-breaks short) (low-first _ _ (low-count short) (rules-low ls (L .rules) low)))
+  small-later : length p ≤ L .most-bytes → Each Small (first later)
+  small-later short = each-first _ _ (small-character short) (each-first _ _ (small-breaks short) (each-first _ _ (small-count short) (rules-small ls (L .rules) small)))
 
-  low-bytes : Low (first (tooManyBytes L p ∷ later))
+  small-bytes : Each Small (first (tooManyBytes L p ∷ later))
   unfolding first
-  low-bytes = go (ltb (L .most-bytes) (length p)) refl
+  small-bytes = go (ltb (L .most-bytes) (length p)) refl
     where
-      go : (b : Bool) → ltb (L .most-bytes) (length p) ≡ b → Low (first (found b (under 2 0) ∷ later))
-      go true e = λ r h. let s : under 2 0 ≡ r = cc in rw (← s) (omega arith)
-      go false e = low-later (ltb-false _ _ e)
+      go : (b : Bool) → ltb (L .most-bytes) (length p) ≡ b → Each Small (first (found b (under 2 0) ∷ later))
+      go true e = λ r h. let s : under 2 0 ≡ r = cc in rw (← s) (record { line = lit≤ tt; number = lit≤ tt })
+      go false e = small-later (ltb-false _ _ e)
 
-  pub low-findings : Low (first (findings L p))
+  pub small-findings : Each Small (first (findings L p))
   unfolding findings
-  low-findings = low-first (noBytes p) _ (low-found (eqb (length p) 0) (under 1 0) (omega arith)) low-bytes
+  small-findings = each-first (noBytes p) _ (each-found Small (eqb (length p) 0) (under 1 0) (record { line = lit≤ tt; number = lit≤ tt })) small-bytes
 
-  -- what a verdict names is below 1000
-  pub low-line : (r : Refusal) → verdict L p ≡ refused r → r .line < 1000
-  low-line r h = low-findings r (settled-refuses (billOf p) (first (findings L p)) r (sym (verdict-is L p) ∙ h))
+  -- what a verdict names
+  pub small-verdict : (r : Refusal) → verdict L p ≡ refused r → Small r
+  small-verdict r h = small-findings r (settled-refuses (billOf p) (first (findings L p)) r (sym (verdict-is L p) ∙ h))
 
 -- a refusal has a number from 1 to 15
 pub low-number : (f : Fault) → (1 ≤ paperFault f .number) × (paperFault f .number ≤ 15)

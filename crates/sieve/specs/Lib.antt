@@ -9,6 +9,7 @@ pub mod Rules
 pub mod Kinds
 pub mod Verdict
 pub mod Whole
+pub mod Order
 pub mod Paper
 pub mod Places
 pub mod Reading

@@ -11,17 +11,22 @@ use Rattle.sieve.proofs.Numbers as sieve
 use Rattle.swiss.specs.Swiss.{rules, swiss}
 use Rattle.swiss.proofs.DemandThree.{swiss-demand-three}
 
-low-rules : sieve.lowRules rules ≡ true
-unfolding rules sieve.lowRules flatten
-low-rules = refl
+small-rules : sieve.smallRules rules ≡ true
+unfolding rules sieve.smallRules flatten
+small-rules = refl
 
-pub low-findings : (p : Bytes) → sieve.Low (first (findings swiss p))
+pub small-findings : (p : Bytes) → sieve.Each sieve.Small (first (findings swiss p))
 unfolding swiss
-low-findings = sieve.low-findings swiss (lit≤ tt) low-rules
+small-findings = sieve.small-findings swiss (lit≤ tt) small-rules
 
 pub low-line : (p : Bytes) (r : Refusal) → verdict swiss p ≡ refused r → r .line < 1000
 unfolding swiss
-low-line = sieve.low-line swiss (lit≤ tt) low-rules
+low-line p r h = sieve.small-verdict swiss (lit≤ tt) small-rules p r h .line
+
+-- no verdict is 14 or 15
+pub never-14-or-15 : (p : Bytes) (r : Refusal) → verdict swiss p ≡ refused r → r .number ≤ 13
+unfolding swiss
+never-14-or-15 p r h = sieve.small-verdict swiss (lit≤ tt) small-rules p r h .number
 
 -- an accepted payload has 31 to 34 lines
 pub line-count : (p : Bytes) (n : ℕ) (k : Break) → verdict swiss p ≡ accepted n k → (31 ≤ n) × (n ≤ 34)

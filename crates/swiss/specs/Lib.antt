@@ -1,6 +1,7 @@
 pub mod Limits
 pub mod Forms
 pub mod Swiss
+pub mod Order
 pub mod Base
 pub mod Table
 pub mod SecondTable
