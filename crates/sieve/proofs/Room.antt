@@ -1,8 +1,8 @@
 -- When the writer finds too little room: where nothing else is wrong. Assumes nothing.
 use Prim.Native.Nat.{ℕ, _≤_, _<_}
 use native.Mathlib.Omega.{arith}
-use mathlib.Core.Bool.{Bool, true, false, not}
-use mathlib.Core.List.{List, [], _∷_}
+use mathlib.Core.Bool.{not}
+use mathlib.Core.List.{List, _∷_}
 use mathlib.Core.Logic.{_⊎_, inl, inr}
 use mathlib.Core.Option.{Option, some, none, Option·map, Option·none-ne-some}
 use mathlib.Core.Path.{_≡_, refl, sym, ap, _∙_}
@@ -14,11 +14,10 @@ use Rattle.sieve.specs.Bytes.{Bytes, within, firstSuch}
 use Rattle.sieve.specs.Lawful.{Lawful}
 use Rattle.sieve.specs.Lines.{joined, written}
 use Rattle.sieve.specs.Paper.{not-laid}
-use Rattle.sieve.specs.Places.{placed, listSize}
-use Rattle.sieve.specs.Reading.{noRoom}
+use Rattle.sieve.specs.Places.{listSize}
 use Rattle.sieve.specs.Rules.{Layout}
-use Rattle.sieve.specs.Verdict.{Refusal, under, found, accepted, findings, first, verdict}
-use Rattle.sieve.specs.Writing.{outside, spans, handed, strayBreak, writeFindings, laidOnto, writeAnswer}
+use Rattle.sieve.specs.Verdict.{Refusal, under, accepted, findings, first, verdict}
+use Rattle.sieve.specs.Writing.{outside, spans, handed, writeFindings, laidOnto, writeAnswer}
 use Rattle.sieve.proofs.Findings.{found-none, found-some}
 use Rattle.sieve.proofs.Firsts.{alone}
 use Rattle.sieve.proofs.Numbers.{Each, Small}

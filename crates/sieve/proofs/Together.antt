@@ -14,10 +14,9 @@ use Rattle.sieve.specs.Demand.{Is}
 use Rattle.sieve.specs.Lawful.{Lawful}
 use Rattle.sieve.specs.Lines.{billOf, written}
 use Rattle.sieve.specs.Places.{placesOf, listSize}
-use Rattle.sieve.specs.Reading.{readAnswer, IsRead}
+use Rattle.sieve.specs.Reading.{IsRead}
 use Rattle.sieve.specs.Rules.{Layout}
-use Rattle.sieve.specs.Verdict.{accepted, verdict}
-use Rattle.sieve.specs.Writing.{handed, writeAnswer, IsWritten}
+use Rattle.sieve.specs.Writing.{handed, IsWritten}
 use Rattle.sieve.proofs.PaperLosesNothing.{one-answer, one-written}
 use Rattle.sieve.proofs.ReaderPromises.{accepted-listed, answer-is-verdict, cut-out-of}
 use Rattle.sieve.proofs.WriterPromises.{handed-length, handedBill, laid-written, laid-accepted, round-trip}

@@ -1,7 +1,7 @@
 -- `records::byte` meets its contract. Assumes nothing.
 use Prim.Native.Nat.{_+_}
 use native.Mathlib.Omega.{arith}
-use mathlib.Core.Path.{refl, sym}
+use mathlib.Core.Path.{sym}
 use lib.ListN.{List·getD-eq-default}
 use lib.Seq.{getD-drop}
 use borrow.Author.Needs.{needs}

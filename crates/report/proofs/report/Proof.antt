@@ -2,18 +2,13 @@
 use Prim.Native.Nat.{_-_}
 use native.Mathlib.Nat.{sub-zero}
 use native.Mathlib.Omega.{arith}
-use mathlib.Core.Path.{_≡_, refl, sym, ap, _∙_}
+use mathlib.Core.Path.{_≡_, refl, ap, _∙_}
 use lib.ListN.{take}
-use Rattle.sieve.specs.declared.Answer.{Answer}
-use Rattle.sieve.specs.declared.Answer.the-variants.{Accepted, Refused}
-use Rattle.sieve.specs.Bytes.{Bytes}
-use Rattle.sieve.specs.Paper.{paper, paperFault}
 use Rattle.sieve.specs.Verdict.{verdict}
 use Rattle.swiss.specs.Swiss.{swiss}
 use Rattle.runs.proofs.Lays.{room-fits}
-use Rattle.sieve.proofs.Numbers.{low-number}
-use Rattle.swiss.proofs.Numbers.{low-line, line-count}
-use Rattle.report.specs.Spoken.{Short, spoken}
+use Rattle.report.specs.Spoken.{spoken}
+use Rattle.report.proofs.Promise.{short}
 use borrow.Author.Needs.{needs}
 use Rattle.report.proofs.report.Statement.{statement}
 use Rattle.report.proofs.report.Tie as tie
@@ -23,11 +18,6 @@ verdict-requires c κs = search needs
 
 slice-aggregate-compose : tie.Need-slice-aggregate-compose
 slice-aggregate-compose c = search needs
-
--- what the verdict names is below 1000
-short : (p : Bytes) (r : Answer) → paper r ≡ verdict swiss p → Short (paper r)
-short p (Accepted n k) e = let few = line-count p n k (sym e) in omega arith
-short p (Refused f) e = (omega (arith, low-number f), low-line p (paperFault f) (sym e))
 
 compose-requires : tie.Need-compose-requires
 compose-requires c κs = (short (c .before .before .before .before .args .payload .now) (c .before .verdict .result) (c .before .verdict .ensures), refl)
