@@ -58,10 +58,10 @@ first-of at l (n ∷ ns) d = refl
 
 module _ (s : Bytes) (at : ℕ) (r : LineAt) (is : IsLineAt s at r) where
   -- the first of them is this line
-  pub this-line : IsPlaceOf (getD (linesAt s at) 0 (absent s)) (record { start = at; length = r .end - at })
+  pub this-line : IsPlaceOf (getD (linesAt s at) 0 (absent s)) (record { start = at; bytes = r .end - at })
   this-line =
       let e = first-of at (cut (drop at s) .first) (cut (drop at s) .rest) (absent s) in
-      record { start = rw e; length = rw e (omega (arith, is .end)) }
+      record { start = rw e; bytes = rw e (omega (arith, is .end)) }
 
   -- past the last there is none
   pub past-last : r .next ≡ r .end → (i : ℕ) → getD (linesAt s at) (suc i) (absent s) ≡ absent s
@@ -85,4 +85,4 @@ module _ (s : Bytes) (at : ℕ) (r : LineAt) (is : IsLineAt s at r) where
 
 -- a line has one place
 pub one-place : (l : Placed) (r q : Place) → IsPlaceOf l r → IsPlaceOf l q → r ≡ q
-one-place l r q h k = ap₂ {C = Place} (λ (a b : ℕ). record { start = a; length = b }) (h .start ∙ sym (k .start)) (h .length ∙ sym (k .length))
+one-place l r q h k = ap₂ {C = Place} (λ (a b : ℕ). record { start = a; bytes = b }) (h .start ∙ sym (k .start)) (h .bytes ∙ sym (k .bytes))

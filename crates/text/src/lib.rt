@@ -176,7 +176,7 @@ pub fn line_at(s: &[u8], from: usize) -> LineAt
 // Where a line lies.
 pub struct Place {
     pub start: usize,
-    pub length: usize,
+    pub bytes: usize,
 }
 
 // The place of line `n`, counted from 1; 0 counts as 1. An absent line lies at the end, with length 0.
@@ -190,13 +190,13 @@ pub fn line_place(s: &[u8], n: usize) -> Place
         let end = line.end;
         let next = line.next;
         if left <= 1 {
-            let length = end - at;
-            return Place { start: at, length };
+            let bytes = end - at;
+            return Place { start: at, bytes };
         }
         if next == end {
             return Place {
                 start: s.len(),
-                length: 0,
+                bytes: 0,
             };
         }
         at = next;

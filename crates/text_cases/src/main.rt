@@ -86,7 +86,7 @@ fn write_stray(s: &[u8]) {
 fn write_place(s: &[u8], n: usize) {
     let place = text::line_place(s, n);
     write_next(place.start);
-    write_next(place.length);
+    write_next(place.bytes);
 }
 
 fn write_answer(s: &[u8]) {

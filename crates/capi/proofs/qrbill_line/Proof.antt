@@ -1,5 +1,6 @@
 -- `capi::qrbill_line` meets its contract: the places are those of the verdict. Assumes nothing.
 use Prim.Native.Nat.{ℕ}
+use native.Mathlib.Omega.{arith}
 use mathlib.Core.List.{List}
 use mathlib.Core.Path.{_≡_, sym, ap, _∙_}
 use Rattle.sieve.specs.Paper.{paper, paperFault}
@@ -32,7 +33,7 @@ packed-place-requires : tie.Need-packed-place-requires
 packed-place-requires c κs =
     let at-start = c .before .before .before .before .before .before .before in
     let (least, most) = is-within 1 _ (at-start .args .line) (c .before .if1 .taken) in
-    (judged-length (c .before .before .before .before .judge .ensures), least, most)
+    (judged-length (c .before .before .before .before .judge .ensures), least, omega (arith, most))
 
 returns : tie.Need-returns
 returns c =
