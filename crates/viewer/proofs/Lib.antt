@@ -1,4 +1,6 @@
 pub mod Onward
+pub mod Standing
 pub mod Promise
 pub mod Taken
+pub mod Reaching
 pub mod OneAnswer
