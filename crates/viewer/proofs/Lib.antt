@@ -1,5 +1,6 @@
 pub mod Onward
 pub mod Standing
+pub mod Places
 pub mod Promise
 pub mod Taken
 pub mod Reaching

@@ -17,16 +17,17 @@ use Rattle.sieve.specs.OneAnswer.{Learns, OneAnswer}
 use Rattle.sieve.proofs.PaperLosesNothing.{one-answer}
 use Rattle.viewer.specs.View.{isDone, standing}
 use Rattle.viewer.specs.Held.{IsOpened, IsLine, IsNext}
+use Rattle.viewer.proofs.Promise.{MayDone, MayLine}
 use Rattle.viewer.proofs as fn
 
 abbrev Open : Learns fn.open.ended
 Open κs a r e = IsOpened (a .0) r
 
 abbrev Done : Learns fn.done.ended
-Done κs a r e = r ≡ isDone (now (a .0 .payload)) (a .0 .at)
+Done κs a r e = MayDone (a .0) r
 
 abbrev Line : Learns fn.line.ended
-Line κs a r e = IsLine (a .0 .payload) (a .0 .at) r
+Line κs a r e = MayLine (a .0) r
 
 abbrev Next : Learns fn.next.ended
 Next κs a r e = IsNext (a .0) r

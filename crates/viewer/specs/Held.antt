@@ -1,5 +1,5 @@
 -- What the viewer's functions answer. Assumes nothing.
-use Prim.Native.Nat.{ℕ, _+_}
+use Prim.Native.Nat.{ℕ, zero, suc, _+_}
 use mathlib.Core.Bool.{cond}
 use mathlib.Core.Path.{_≡_}
 use lib.ListN.{length}
@@ -40,3 +40,8 @@ pub record IsMoved (v : Viewer) (moves : ℕ) (r : Viewer) : Type 0 where
   pub payload : r .payload ≡ v .payload
   pub at : r .at ≡ movedFrom (now (v .payload)) moves (v .at)
   pub answer : r .answer ≡ v .answer
+
+-- a viewer that was opened on a payload, and then moved on so many times
+pub data Moved (lent : RefT Bytes) : ℕ → Viewer → Type 0 where
+  opening : {v : Viewer} → IsOpened lent v → Moved lent zero v
+  once-more : {i : ℕ} {w v : Viewer} → Moved lent i w → IsNext w v → Moved lent (suc i) v
