@@ -1,9 +1,8 @@
 """Make the payloads that the program `reader_cases` is run on, and what it has to write for each.
 
 The payloads are those of all cases, in their order, each behind its length in four bytes. What is
-to be written is the reference's answer, for lists of three lengths, and the account that a viewer
-hands out. Of a payload only the first 2,000 bytes are stored: past 997 it does not matter how many
-there are.
+to be written is the reference's answer, for lists of three lengths, and what a viewer hands out.
+Of a payload only the first 2,000 bytes are stored: past 997 it does not matter how many there are.
 
 With `--check` it writes no file: it compares the stored files with what it would make, once for
 each case and line. It prints a line for each failure and at the end `N passed, M failed`.
@@ -24,18 +23,19 @@ CRATE = Path(__file__).resolve().parent.parent / 'crates' / 'reader_cases'
 MOST_STORED = 2000  # bytes of a payload
 LIST_SIZES = (68, 70, 67)
 LINES = len(LIST_SIZES) + 1  # that the program writes for a payload
-ACCOUNT_LINE = 4
+DONE = b'.0:'  # what is written of a viewer that is done: an empty part
 FIRST_MARK = 60000
 BREAK_NUMBERS = {'LF': 1, 'CRLF': 2}
 
 
-def account(payload):
-    """The line with the account of a payload; an empty one where it is refused."""
+def view(payload):
+    """The line with what a viewer hands out: each line of an accepted payload, and then that it is
+    done, twice."""
     answer = read(payload)
-    if not isinstance(answer, Accepted):
-        return b'\n'
-    start, length = answer.places[2 * (ACCOUNT_LINE - 1):2 * ACCOUNT_LINE]
-    return payload[start:start + length] + b'\n'
+    entries = answer.places[:2 * answer.lines] if isinstance(answer, Accepted) else []
+    places = zip(entries[::2], entries[1::2])
+    lines = [payload[start:start + length] for start, length in places]
+    return b''.join(b'+%d:%s' % (len(text), text) for text in lines) + 2 * DONE + b'\n'
 
 
 def line(payload, size):
@@ -57,7 +57,7 @@ def make():
         payload = case.payload[:MOST_STORED]
         for size in LIST_SIZES:
             yield f'{case.name} with {size} numbers', (framed(payload), line(payload, size))
-        yield f'{case.name}, its account', (framed(payload), account(payload))
+        yield f'{case.name}, viewed', (framed(payload), view(payload))
 
 
 def checks():
