@@ -1,16 +1,14 @@
 -- What the list of places says of each line: where it lies in the payload. Assumes nothing.
-use Prim.Native.Nat.{ℕ, zero, suc, _+_, _-_, _*_, _≤_, _<_}
-use native.Mathlib.Nat.{le-of-suc-le-suc, not-suc-le-zero}
+use Prim.Native.Nat.{ℕ, zero, suc, _+_, _-_, _*_, _≤_}
 use native.Mathlib.Omega.{arith}
 use mathlib.Core.List.{List, [], _∷_, _++_, map}
 use mathlib.Core.Path.{_≡_, refl, sym, ap, _∙_}
 use lib.ListN.{length, getD, take, drop, length-append, List·getD-map}
 use Rattle.sieve.specs.Bytes.{Bytes}
 use Rattle.sieve.specs.Lines.{breakBytes, Next, gluedAfter, cut, linesOf}
-use Rattle.sieve.specs.Places.{Placed, entries}
 use Rattle.sieve.specs.Rules.{line}
 use Rattle.sieve.proofs.Cutting.{glued-cut}
-use Rattle.sieve.proofs.Placing.{entries-length}
+use Rattle.sieve.proofs.Placing.{entries-length, entry-at}
 use Rattle.text.specs.LinesIn.{linesFrom, linesIn, lineOf}
 use Rattle.text.proofs.LinesLie.{absent, line-lies}
 use Rattle.lines.specs.Listed.{capacity, room, listed}
@@ -18,24 +16,6 @@ use Rattle.lines.specs.Listed.{capacity, room, listed}
 pub listed-length : (p : Bytes) → length (listed p) ≡ room
 unfolding listed
 listed-length p = entries-length capacity (length p) (linesIn p)
-
--- the two numbers of an entry
-entry-at : (m i end : ℕ) (ls : List Placed) → i < m → let l = getD ls i (record { start = end; text = [] }) in
-    (getD (entries m end ls) (2 * i) 0 ≡ l .start) × (getD (entries m end ls) (2 * i + 1) 0 ≡ length (l .text))
-unfolding entries
-entry-at zero i end ls h = absurd (not-suc-le-zero h)
-entry-at (suc m) zero end [] h = (refl, refl)
-entry-at (suc m) zero end (l ∷ ls) h = (refl, refl)
-entry-at (suc m) (suc i) end [] h =
-    let twice : 2 * suc i ≡ suc (suc (2 * i)) = omega arith in
-    let more : suc (suc (2 * i)) + 1 ≡ suc (suc (2 * i + 1)) = omega arith in
-    let (a, b) = entry-at m i end [] (le-of-suc-le-suc h) in
-    (rw twice a, rw (twice, more) b)
-entry-at (suc m) (suc i) end (l ∷ ls) h =
-    let twice : 2 * suc i ≡ suc (suc (2 * i)) = omega arith in
-    let more : suc (suc (2 * i)) + 1 ≡ suc (suc (2 * i + 1)) = omega arith in
-    let (a, b) = entry-at m i end ls (le-of-suc-le-suc h) in
-    (rw twice a, rw (twice, more) b)
 
 texts : (at : ℕ) (l : Bytes) (ns : List Next) → map (λ m. m .text) (linesFrom at l ns) ≡ l ∷ map (λ m. m .line) ns
 unfolding linesFrom

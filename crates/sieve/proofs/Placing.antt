@@ -1,10 +1,10 @@
 -- The list of places gives back the lines of the bill that it was made for. Assumes nothing.
-use Prim.Native.Nat.{ℕ, zero, suc, _+_, _-_, _*_, _≤_, zero-le}
+use Prim.Native.Nat.{ℕ, zero, suc, _+_, _-_, _*_, _≤_, _<_, zero-le}
 use native.Mathlib.Nat.{sub-zero, le-of-suc-le-suc, not-suc-le-zero}
 use native.Mathlib.Omega.{arith}
 use mathlib.Core.List.{List, [], _∷_, _++_, map, flatten, append-assoc}
 use mathlib.Core.Path.{_≡_, refl, sym, _∙_, ap, ap₂}
-use lib.ListN.{length, replicate, drop, length-append}
+use lib.ListN.{length, getD, replicate, drop, length-append}
 use lib.Seq.{take-append-seam, drop-at}
 use Rattle.sieve.specs.declared.Break.{Break}
 use Rattle.sieve.specs.Bytes.{Bytes}
@@ -21,6 +21,24 @@ unfolding entries
 entries-length zero end ls = refl
 entries-length (suc n) end [] = omega (arith, entries-length n end [])
 entries-length (suc n) end (l ∷ ls) = omega (arith, entries-length n end ls)
+
+-- the two numbers of an entry
+pub entry-at : (m i end : ℕ) (ls : List Placed) → i < m → let l = getD ls i (record { start = end; text = [] }) in
+    (getD (entries m end ls) (2 * i) 0 ≡ l .start) × (getD (entries m end ls) (2 * i + 1) 0 ≡ length (l .text))
+unfolding entries
+entry-at zero i end ls h = absurd (not-suc-le-zero h)
+entry-at (suc m) zero end [] h = (refl, refl)
+entry-at (suc m) zero end (l ∷ ls) h = (refl, refl)
+entry-at (suc m) (suc i) end [] h =
+    let twice : 2 * suc i ≡ suc (suc (2 * i)) = omega arith in
+    let more : suc (suc (2 * i)) + 1 ≡ suc (suc (2 * i + 1)) = omega arith in
+    let (a, b) = entry-at m i end [] (le-of-suc-le-suc h) in
+    (rw twice a, rw (twice, more) b)
+entry-at (suc m) (suc i) end (l ∷ ls) h =
+    let twice : 2 * suc i ≡ suc (suc (2 * i)) = omega arith in
+    let more : suc (suc (2 * i)) + 1 ≡ suc (suc (2 * i + 1)) = omega arith in
+    let (a, b) = entry-at m i end ls (le-of-suc-le-suc h) in
+    (rw twice a, rw (twice, more) b)
 
 pub spans-of : (n end : ℕ) (ls : List Placed) → length ls ≤ n → spans (length ls) (entries n end ls) ≡ map span ls
 unfolding spans entries

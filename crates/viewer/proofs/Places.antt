@@ -1,19 +1,18 @@
 -- Where a viewer of an accepted payload stands is where the reader's list of places says that the line starts. Assumes nothing.
 use Prim.Native.Nat.{ℕ, zero, suc, _+_, _-_, _*_, _≤_, _<_}
 use native.Mathlib.Omega.{arith}
-use mathlib.Core.List.{List, [], _∷_}
 use mathlib.Core.Logic.{_≢_}
 use mathlib.Core.Path.{_≡_, refl, sym, _∙_, ap}
 use lib.ListN.{length, getD, drop}
 use Rattle.sieve.specs.declared.Break.{Break}
 use Rattle.sieve.specs.Bytes.{Bytes}
-use Rattle.sieve.specs.Lines.{breakBytes, cut, breaksOf, kind, written, billOf}
+use Rattle.sieve.specs.Lines.{breakBytes, cut, breaksOf, kind, billOf}
 use Rattle.sieve.specs.Characters.{breakWidth}
-use Rattle.sieve.specs.Places.{Placed, placed, entries, placesOf}
+use Rattle.sieve.specs.Places.{placed, placesOf}
 use Rattle.sieve.specs.Verdict.{accepted, findings, first, verdict}
-use Rattle.sieve.proofs.Accepts.{each-like}
+use Rattle.sieve.proofs.Accepts.{each-like, unmixed-written}
 use Rattle.sieve.proofs.Findings.{settled-accepts, verdict-is, clear}
-use Rattle.sieve.proofs.Placing.{length-placed}
+use Rattle.sieve.proofs.Placing.{entry-at, length-placed}
 use Rattle.swiss.specs.Swiss.{swiss}
 use Rattle.text.specs.declared.LineAt.{LineAt}
 use Rattle.text.specs.LinesIn.{linesFrom, linesIn, linesAt}
@@ -56,19 +55,6 @@ stops : (p : Bytes) (i at : ℕ) → i < length (linesAt p at) → Stop p i at
 stops p zero at h = stop-here p at
 stops p (suc i) at h = stop-on p at i h (stops p i (nextFrom p at))
 
--- the two numbers of a line's entry
-entry-at : (m i end : ℕ) (ls : List Placed) (d : Placed) → i < length ls → length ls ≤ m → let l = getD ls i d in
-    (getD (entries m end ls) (2 * i) 0 ≡ l .start) × (getD (entries m end ls) (2 * i + 1) 0 ≡ length (l .text))
-unfolding entries
-entry-at m i end [] d h k = absurd (omega arith)
-entry-at zero i end (l ∷ ls) d h k = absurd (omega arith)
-entry-at (suc m) zero end (l ∷ ls) d h k = (refl, refl)
-entry-at (suc m) (suc i) end (l ∷ ls) d h k =
-    let twice : 2 * suc i ≡ suc (suc (2 * i)) = omega arith in
-    let more : suc (suc (2 * i)) + 1 ≡ suc (suc (2 * i + 1)) = omega arith in
-    let (a, b) = entry-at m i end ls d (omega arith) (omega arith) in
-    (rw twice a, rw (twice, more) b)
-
 -- the list's entry of line i + 1: its start and its length
 pub listed-place : (p : Bytes) (n : ℕ) (k : Break) → verdict swiss p ≡ accepted n k → n ≤ swiss .most-lines → (i : ℕ) → i < n → let places = placesOf swiss (billOf p) in
     (standing p i ≡ getD places (2 * i) 0) × (length (lineFrom p (standing p i)) ≡ getD places (2 * i + 1) 0)
@@ -80,5 +66,6 @@ listed-place p n k v most i h =
     let start : standing p 0 ≡ 0 = rw v in
     let stop : Stop p i 0 = stops p i 0 (omega (arith, many)) in
     let stands : movedFrom p i 0 ≡ standing p i = ap (movedFrom p i) (sym start) ∙ moved-standing p i in
-    let (a, b) = entry-at (swiss .most-lines) i (length (written (billOf p))) (linesIn p) (absent p) (omega (arith, many)) (omega (arith, many)) in
-    (rw (← stands, ← lie, a) (stop .start), rw (← stands, ← lie, b) (stop .length))
+    let whole = ap length (unmixed-written p (clear swiss p none .unmixed)) in
+    let (a, b) = entry-at (swiss .most-lines) i (length p) (linesIn p) (omega (arith, most)) in
+    (rw (← stands, ← lie, whole, a) (stop .start), rw (← stands, ← lie, whole, b) (stop .length))
