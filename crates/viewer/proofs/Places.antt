@@ -25,7 +25,7 @@ use Rattle.viewer.proofs.Standing.{moved-standing}
 
 -- moved on i times from a place, a viewer stands where the line starts that is the i-th after the one there
 abbrev Stop : Bytes → ℕ → ℕ → Type 0
-Stop p i at = let stop = movedFrom p i at in IsPlaceOf (getD (linesAt p at) i (absent p)) (record { start = stop; length = length (lineFrom p stop) })
+Stop p i at = let stop = movedFrom p i at in IsPlaceOf (getD (linesAt p at) i (absent p)) (record { start = stop; bytes = length (lineFrom p stop) })
 
 module _ (p : Bytes) (at : ℕ) where
   abbrev r : LineAt
@@ -36,7 +36,7 @@ module _ (p : Bytes) (at : ℕ) where
 
   stop-here : Stop p 0 at
   unfolding movedFrom lineFrom
-  stop-here = let first = this-line p at r is in record { start = first .start; length = omega (arith, first .length) }
+  stop-here = let first = this-line p at r is in record { start = first .start; bytes = omega (arith, first .bytes) }
 
   stop-on : (i : ℕ) → suc i < length (linesAt p at) → (i < length (linesAt p (nextFrom p at)) → Stop p i (nextFrom p at)) → Stop p (suc i) at
   unfolding movedFrom lineFrom linesFrom
@@ -68,4 +68,4 @@ listed-place p n k v most i h =
     let stands : movedFrom p i 0 ≡ standing p i = ap (movedFrom p i) (sym start) ∙ moved-standing p i in
     let whole = ap length (unmixed-written p (clear swiss p none .unmixed)) in
     let (a, b) = entry-at (swiss .most-lines) i (length p) (linesIn p) (omega (arith, most)) in
-    (rw (← stands, ← lie, whole, a) (stop .start), rw (← stands, ← lie, whole, b) (stop .length))
+    (rw (← stands, ← lie, whole, a) (stop .start), rw (← stands, ← lie, whole, b) (stop .bytes))
