@@ -110,12 +110,13 @@ fn come(s: &[u8], places: &mut [u16; 68]) -> Came
     let mut walked = Walked::Clean;
     'lines: while at < s.len() {
         while at < s.len() {
-            if in_one(s[at]) {
+            let x = s[at];
+            if in_one(x) {
                 at = plain_end(s, at + 1);
                 continue;
             }
             let mut b = 1;
-            if s[at] != 10 {
+            if x != 10 {
                 let n = width(s, at);
                 if n != 0 {
                     at += n;

@@ -32,8 +32,8 @@ abbrev text : tie.At-loop Inv-loop μ-loop Inv-lines μ-lines → Bytes
 text l = l .before .before .before .before .args .s .now
 
 -- the turn of the inner loop in which a byte is held against LF; and where the line before a break is noted
-abbrev turn : tie.After-shared-slice-known3 Inv-loop μ-loop Inv-lines μ-lines → tie.In-loop Inv-loop μ-loop Inv-lines μ-lines
-turn c = c .before .before .before .before
+abbrev turn : tie.Else1 Inv-loop μ-loop Inv-lines μ-lines → tie.In-loop Inv-loop μ-loop Inv-lines μ-lines
+turn c = c .before .before .before
 
 abbrev at-note : tie.After-row-known Inv-loop μ-loop Inv-lines μ-lines → tie.After-note-arg Inv-loop μ-loop Inv-lines μ-lines
 at-note c = c .before .before .before .before
@@ -57,8 +57,8 @@ lines-less c = omega arith
 lines-again : tie.Need-lines-again Inv-loop μ-loop Inv-lines μ-lines
 lines-again c = (c .before .loop .inv .1, c .before .loop .inv .2)
 
-shared-slice-read-in-one : tie.Need-shared-slice-read-in-one Inv-loop μ-loop Inv-lines μ-lines
-shared-slice-read-in-one c = search needs
+shared-slice-read-x : tie.Need-shared-slice-read-x Inv-loop μ-loop Inv-lines μ-lines
+shared-slice-read-x c = search needs
 
 in-one-requires : tie.Need-in-one-requires Inv-loop μ-loop Inv-lines μ-lines
 in-one-requires c κs = search needs
@@ -79,9 +79,6 @@ loop-again : tie.Need-loop-again Inv-loop μ-loop Inv-lines μ-lines
 loop-again c =
     let t = c .before .before .before .before in
     (omega (arith, c .plain-end .ensures), rw (c .plain-end .ensures) (run-passed _ _ _ _ _ _ _ refl (byte-passed (c .before))), t .before .loop .inv .2)
-
-shared-slice-read-if2 : tie.Need-shared-slice-read-if2 Inv-loop μ-loop Inv-lines μ-lines
-shared-slice-read-if2 c = search needs
 
 width-requires : tie.Need-width-requires Inv-loop μ-loop Inv-lines μ-lines
 width-requires c κs = search needs
@@ -198,13 +195,12 @@ come-spec =
     loop-holds
     lines-less
     lines-again
-    shared-slice-read-in-one
+    shared-slice-read-x
     in-one-requires
     add-plain-end
     plain-end-requires
     loop-less
     loop-again
-    shared-slice-read-if2
     width-requires
     add-at
     loop-less-2
