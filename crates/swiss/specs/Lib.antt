@@ -1,5 +1,6 @@
 pub mod Limits
 pub mod Forms
+pub mod Cents
 pub mod Swiss
 pub mod Order
 pub mod Base
