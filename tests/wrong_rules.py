@@ -1,8 +1,8 @@
 """Try wrong rules: the definitions of the Swiss bill with one place changed. A table must refuse each.
 
 Each is tried on a copy that has the definitions of `sieve` and `swiss` and the two tables, and no
-proof, no function and no worked example: so what refuses a wrong rule is a table. This takes some
-minutes and is no part of the gate. `python3 tests/wrong_rules.py WORD` tries only those whose name
+proof, no function and no worked example: so what refuses a wrong rule is a table. This takes half
+an hour and is no part of the gate. `python3 tests/wrong_rules.py WORD` tries only those whose name
 has that word. Prints a line for each failure and at the end `N passed, M failed`.
 """
 
@@ -33,6 +33,7 @@ VERDICT = 'sieve/specs/Verdict.antt'
 CRATE_LIST = 'sieve:\nswiss: sieve\n'
 ERROR = re.compile(r'^(\S+?):\d+:\d+: error:', re.MULTILINE)
 TABLES = {'Table.antt', 'SecondTable.antt'}
+COMPUTED = TABLES | {'Order.antt', 'Base.antt'}  # the order of the rules and the sizes of bill B are computed too
 
 
 class Wrong(NamedTuple):
@@ -342,7 +343,7 @@ SHARED = (
     Wrong('CR counted as a line', CHARACTERS, 'eqb x 10) 1 0', 'within 10 13 x) 1 0'),
     Wrong('remainder 0', MOD97, 'eqb (remainder97 s) 1', 'eqb (remainder97 s) 0'),
     Wrong('remainder 0 too', MOD97, 'eqb (remainder97 s) 1', 'lib.Dec.leb (remainder97 s) 1'),
-    Wrong('remainder 2 too', MOD97, 'eqb (remainder97 s) 1', '(eqb (remainder97 s) 1 || eqb (remainder97 s) 2)'),
+    Wrong('remainder 2 too', MOD97, 'eqb (remainder97 s) 1', 'cond (eqb (remainder97 s) 2) mathlib.Core.Bool.true (eqb (remainder97 s) 1)'),
     Wrong('by 96', MOD97, '% 97', '% 96'),
     Wrong('nothing moved', MOD97, 'drop 4 s ++ take 4 s', 's'),
     Wrong('three moved', MOD97, 'drop 4 s ++ take 4 s', 'drop 3 s ++ take 3 s'),
@@ -367,7 +368,7 @@ SHARED = (
     Wrong('lengths in bytes', KINDS, 'ltb most (characters (line n ls))', 'ltb most (lib.ListN.length (line n ls))'),
     Wrong('an empty line needs a form', KINDS, 'not (isEmpty n ls) && not (right ls)', 'not (right ls)'),
     Wrong('a last line is one of at least n', RULES, 'isLast n ls = eqb (length ls) n', 'isLast n ls = lib.Dec.leb n (length ls)'),
-    Wrong('an absent line has a byte', RULES, 'getD ls (n - 1) []', 'getD ls (n - 1) (65 ∷ [])'),
+    Wrong('an absent line has a byte', RULES, 'getD ls (n - 1) []', 'getD ls (n - 1) (ascii "A")'),
     Wrong('a line of one byte is empty', RULES, 'eqb (length l) 0', 'lib.Dec.leb (length l) 1'),
     Wrong('the second break is asked', LINES, 'kind (k ∷ ks) = k', 'kind (k ∷ ks) = lib.ListN.getD ks 0 k'),
     Wrong('the CR kept', LINES, 'record { first = []; rest = withCr (c .rest) }', 'record { first = x ∷ []; rest = withCr (c .rest) }'),
@@ -436,7 +437,7 @@ def checks(word):
                 before = change(file, wrong.old, wrong.new)
                 files = refused_by(copy)
                 file.write_text(before, 'utf-8')
-                yield f'{wrong.file}: {wrong.name}: refused by tables alone ({", ".join(files)})', True, bool(files) and files <= TABLES
+                yield f'{wrong.file}: {wrong.name}: refused by a table ({", ".join(files)})', True, bool(files & TABLES) and files <= COMPUTED
 
 
 if __name__ == '__main__':
