@@ -4,8 +4,11 @@ import struct
 from typing import NamedTuple
 
 from damage import break_of, lines_of
+from framing import framed
+from reference.qrbill import LIST_NUMBERS
 
 MOST_NUMBERS, MOST_ROOM = 100, 1000  # as in record.h
+MOST_COUNT, LARGEST = 2**8 - 1, 2**16 - 1  # of lines to write; of the numbers in a list
 
 
 class Record(NamedTuple):
@@ -20,8 +23,9 @@ class Record(NamedTuple):
         """The record as the programs in C read it."""
         numbers = len(self.places)
         rest = (MOST_NUMBERS - numbers) * [0]
-        return struct.pack(f'<5I{MOST_NUMBERS}H', len(self.text), numbers, self.count, self.crlf,
-                           self.room, *self.places, *rest) + self.text
+        head = struct.pack(f'<4I{MOST_NUMBERS}H', numbers, self.count, self.crlf, self.room,
+                           *self.places, *rest)
+        return framed(head + self.text)
 
 
 def record_of(payload):
@@ -29,7 +33,8 @@ def record_of(payload):
     brk = break_of(payload)
     places, start = [], 0
     for line in lines_of(payload):
-        places += [start, len(line)]
+        places += [min(start, LARGEST), min(len(line), LARGEST)]
         start += len(line) + len(brk)
-    count = len(places) // 2
-    return Record(payload, (places + 68 * [0])[:68], count, brk == b'\r\n', MOST_ROOM)
+    count = min(len(places) // 2, MOST_COUNT)
+    places = (places + LIST_NUMBERS * [0])[:LIST_NUMBERS]
+    return Record(payload, places, count, brk == b'\r\n', MOST_ROOM)

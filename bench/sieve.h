@@ -1,4 +1,4 @@
-/* The same sieve in plain C, to compare with: tested, not proved.
+/* The same sieve in plain C, written for speed, to compare with: tested, not proved.
 
    It has the two calls of qrbill.h and, beside them, the reader that fills a list and the writer,
    which our code has in the crate `bench_calls`. A list is of 16-bit numbers, start and byte length

@@ -34,6 +34,7 @@ import re
 from pathlib import Path
 from typing import NamedTuple
 
+FOLDER = Path(__file__).resolve().parent / 'cases'
 BREAKS = {'LF': b'\n', 'CRLF': b'\r\n'}
 
 HEAD = re.compile(r'(bill|case) (\S+)')
@@ -73,14 +74,26 @@ class CaseFileError(Exception):
         super().__init__(f'{line.file}:{line.number}: {fault}')
 
 
-def read_cases(folder: Path) -> list[Case]:
+def read_cases(folder: Path = FOLDER) -> list[Case]:
     """All cases of a folder's case files, in the order of the files' names."""
+    bills, cases = read_files(folder)
+    # Only now are all the bills known that a case may start from.
+    return [make_case(name, steps, bills) for name, steps in cases.items()]
+
+
+def bill_lines(name: str, folder: Path = FOLDER) -> list[bytes]:
+    """The lines of the bill of that name."""
+    bills, _ = read_files(folder)
+    return [to_bytes(line, b'') for line in bills[name].split('|')]
+
+
+def read_files(folder):
+    """The text of each bill and the steps of each case of a folder's case files."""
     bills = {}
     cases = {}
     for path in sorted(folder.glob('*.txt')):
         collect(file_lines(path), bills, cases)
-    # Only now are all the bills known that a case may start from.
-    return [make_case(name, steps, bills) for name, steps in cases.items()]
+    return bills, cases
 
 
 def file_lines(path):

@@ -4,13 +4,11 @@ Prints a line for each failure and at the end `N passed, M failed`.
 """
 
 import sys
-from pathlib import Path
 
-from casefile import BREAKS, CaseFileError, read_cases
+from casefile import BREAKS, FOLDER, CaseFileError, read_cases
 from reference.qrbill import Accepted, Refused, Written, answer_text, read, write
+from telling import Count
 from writer_order import writer_checks
-
-CASES = Path(__file__).resolve().parent / 'cases'
 
 
 def checks_of_case(case):
@@ -39,31 +37,24 @@ def checks_of_accepted(payload, answer):
 
 def all_checks():
     """The checks of all cases and of the writer, each with where it comes from."""
-    cases = read_cases(CASES)
+    cases = read_cases()
     if not cases:
-        yield CASES.name, 'cases', 'at least one', 'none'
+        yield FOLDER.name, 'at least one case', 'none'
     for case in cases:
         for name, expected, got in checks_of_case(case):
-            yield case.file, f'{case.name}: {name}', expected, got
+            yield f'{case.file}: {case.name}: {name}', expected, got
     for name, expected, got in writer_checks():
-        yield 'writer_order.py', name, expected, got
+        yield f'writer_order.py: {name}', expected, got
 
 
 def main():
     """Count and print; the exit status is 1 if anything failed."""
-    passed = failed = 0
+    count = Count()
     try:
-        for place, name, expected, got in all_checks():
-            if expected == got:
-                passed += 1
-            else:
-                failed += 1
-                print(f'{place}: {name}: expected {expected}, got {got}')
+        count.add(all_checks())
     except CaseFileError as error:
-        failed += 1
-        print(error)
-    print(f'{passed} passed, {failed} failed')
-    return 1 if failed else 0
+        count.fail(error)
+    return count.closed()
 
 
 if __name__ == '__main__':

@@ -1,8 +1,6 @@
 """Damaged bills and other payloads to try: the same in each run.
 
-A damaged bill is an accepted payload of the case files with one to three damages. They are drawn
-by a small generator of our own, so that they are the same in every Python: `random` promises that
-only for its method `random`.
+A damaged bill is an accepted payload of the case files with one to three damages.
 
 As a command, `python3 tests/damage.py [SEED [COUNT]]`, it prints how often each answer comes.
 """
@@ -10,12 +8,12 @@ As a command, `python3 tests/damage.py [SEED [COUNT]]`, it prints how often each
 import re
 import sys
 from collections import Counter
-from pathlib import Path
 
 from casefile import read_cases
+from chance import Dice
 from reference.qrbill import MOST_BYTES, MOST_CHARACTERS, Accepted, read
 
-CASES = read_cases(Path(__file__).resolve().parent / 'cases')
+CASES = read_cases()
 BILLS = list(dict.fromkeys(case.payload for case in CASES if case.answer.startswith('accepted')))
 BASE_BILLS = [case.payload for case in CASES if case.name in ('base-lf', 'base-crlf')]
 SAMPLES = [case.payload for case in CASES if case.file.startswith('published-')]
@@ -25,22 +23,6 @@ WIDE = ('\u00A0', '\u017F', '\u0218', '\u021B', '\u20AC',
         '\u009F', '\u0180', '\u0217', '\u021C', '\u20AB', '\u20AD')
 HALVES = (b'\xC2', b'\xC3', b'\xC8', b'\xE2', b'\xE2\x82', b'\x82', b'\xAC', b'\xBC')
 FILLS = ('x', '\u00FC', '\u20AC')
-
-
-class Dice:
-    """A linear congruential generator modulo 2 to the 64th, with Knuth's numbers for MMIX."""
-
-    def __init__(self, seed):
-        self.state = seed
-
-    def below(self, bound):
-        """A number from 0 to bound - 1. The lower bits repeat too soon, so they are left out."""
-        self.state = (6364136223846793005 * self.state + 1442695040888963407) % 2**64
-        return (self.state >> 33) % bound
-
-    def pick(self, items):
-        """One of the items."""
-        return items[self.below(len(items))]
 
 
 # The damages. Each takes the dice and a payload that is not empty, and gives another payload; or

@@ -5,11 +5,12 @@ from collections import Counter
 from pathlib import Path
 
 import kit
+from framing import framed
 from reference.qrbill import Refused, read
+from shrinking import difference
 
 HOST = kit.ROOT / 'tests' / 'host' / 'host.c'
 LAST_LINE = 35  # the host asks for lines 0 to 35
-SHOWN = 20  # failures that are printed
 
 
 def built_host(library: Path, folder: Path) -> Path:
@@ -17,22 +18,23 @@ def built_host(library: Path, folder: Path) -> Path:
     return kit.linked(folder / 'host', kit.compiled(HOST, folder), library)
 
 
-def record(payload):
-    """A payload as the host reads it."""
-    return len(payload).to_bytes(4, 'little') + payload
-
-
 def host_lines(program, payloads):
-    """What the host writes for each payload, then how it ended for each that is left."""
-    records = b''.join(map(record, payloads))
-    ran = subprocess.run(kit.command(program), input=records, stdout=subprocess.PIPE, check=False,
-                         env=kit.environment())
-    lines = ran.stdout.decode().splitlines()
-    return lines + (len(payloads) - len(lines)) * [f'the end, with status {ran.returncode}']
+    """What the host writes for each payload. Where one ends the host, this says how, and another
+    host goes on after it."""
+    lines = []
+    while len(lines) < len(payloads):
+        records = b''.join(map(framed, payloads[len(lines):]))
+        ran = subprocess.run(kit.command(program), input=records, stdout=subprocess.PIPE,
+                             check=False, env=kit.environment())
+        lines += ran.stdout.decode().split('\n')[:-1]
+        if len(lines) < len(payloads):
+            lines.append(f'the end, with status {ran.returncode}')
+    return lines
 
 
-def expected_line(answer):
-    """What the host should write where this is the reference's answer."""
+def expected_line(payload):
+    """What the host should write for a payload, by the reference."""
+    answer = read(payload)
     if isinstance(answer, Refused):
         numbers = [1000 * answer.number + answer.line] + (LAST_LINE + 1) * [0]
     else:
@@ -42,22 +44,19 @@ def expected_line(answer):
     return ' '.join(map(str, numbers))
 
 
+def refusal(line):
+    """The number of the refusal that a line of the host speaks of; 0 if the payload is accepted."""
+    return int(line.split()[0]) // 1000
+
+
 def compare(program, payloads):
-    """How often each refusal comes (0: accepted), and a text for each payload that differs."""
-    seen = Counter()
-    failures = []
-    for payload, got in zip(payloads, host_lines(program, payloads)):
-        answer = read(payload)
-        seen[answer.number if isinstance(answer, Refused) else 0] += 1
-        expected = expected_line(answer)
-        if got != expected:
-            failures.append(f'{payload!r:.1500}: expected {expected}, got {got}')
-    return seen, failures
+    """How often each refusal should come (0: accepted), and the payloads that differ."""
+    expected = [expected_line(payload) for payload in payloads]
+    got = host_lines(program, payloads)
+    differing = [payload for payload, one, other in zip(payloads, expected, got) if one != other]
+    return Counter(map(refusal, expected)), differing
 
 
-def tell(passed, failed, failures):
-    """Print some failures and the closing line; the exit status is 1 if there are any."""
-    for failure in failures[:SHOWN]:
-        print(failure)
-    print(f'{passed} passed, {failed} failed')
-    return 1 if failed else 0
+def described(program, payload):
+    """A text about a payload that differs, made smaller."""
+    return difference(payload, expected_line, lambda some: host_lines(program, [some])[0])

@@ -10,14 +10,15 @@ failure and at the end `N passed, M failed`.
 
 import re
 import sys
-from hashlib import shake_256
 from itertools import zip_longest
 from pathlib import Path
 from string import ascii_letters, ascii_uppercase, digits
 
+from chance import drawn
 from reference.qrbill import (NEXT_CARRY, is_creditor_reference, is_iban, mod_97_10_holds,
                               qr_check_digit_holds)
-from stored import store, told
+from stored import store
+from telling import told
 
 CRATE = Path(__file__).resolve().parent.parent / 'crates' / 'digits_cases'
 MOST_BYTES = 100  # of a text
@@ -82,13 +83,6 @@ QR_REFERENCES = [
     b'123456789098765432101234567', b'123456789098765432101234569',
     b'000008207791225857421286694', b'000000000000000000000000000',
 ]
-
-
-def drawn(name, alphabet, length):
-    """Bytes of an alphabet that look random and are the same for the same name."""
-    stream = shake_256(name.encode()).digest(2 * length)
-    pairs = zip(stream[::2], stream[1::2])
-    return bytes(alphabet[(256 * high + low) % len(alphabet)] for high, low in pairs)
 
 
 def with_check_pair(letters, rest):

@@ -1,9 +1,8 @@
 """Make the payloads that the program `reader_cases` is run on, and what it has to write for each.
 
 The payloads are those of all cases, in their order, each behind its length in four bytes. What is
-to be written is the reference's answer, for lists of three lengths, and the account that a viewer
-hands out. Of a payload only the first 2,000 bytes are stored: past 997 it does not matter how many
-there are.
+to be written is the reference's answer, for lists of three lengths, and what a viewer hands out.
+Of a payload only the first 2,000 bytes are stored: past 997 it does not matter how many there are.
 
 With `--check` it writes no file: it compares the stored files with what it would make, once for
 each case and line. It prints a line for each failure and at the end `N passed, M failed`.
@@ -14,33 +13,29 @@ from itertools import zip_longest
 from pathlib import Path
 
 from casefile import read_cases
+from framing import LENGTH_BYTES, framed
 from reference.qrbill import LIST_NUMBERS, Accepted, read
-from stored import records, store, told
+from stored import kept, store
+from telling import told
 
-TESTS = Path(__file__).resolve().parent
-CRATE = TESTS.parent / 'crates' / 'reader_cases'
+CRATE = Path(__file__).resolve().parent.parent / 'crates' / 'reader_cases'
 
 MOST_STORED = 2000  # bytes of a payload
-LENGTH_BYTES = 4
 LIST_SIZES = (68, 70, 67)
 LINES = len(LIST_SIZES) + 1  # that the program writes for a payload
-ACCOUNT_LINE = 4
+DONE = b'.0:'  # what is written of a viewer that is done: an empty part
 FIRST_MARK = 60000
 BREAK_NUMBERS = {'LF': 1, 'CRLF': 2}
 
 
-def record(payload):
-    """A payload behind its length."""
-    return len(payload).to_bytes(LENGTH_BYTES, 'little') + payload
-
-
-def account(payload):
-    """The line with the account of a payload; an empty one where it is refused."""
+def view(payload):
+    """The line with what a viewer hands out: each line of an accepted payload, and then that it is
+    done, twice."""
     answer = read(payload)
-    if not isinstance(answer, Accepted):
-        return b'\n'
-    start, length = answer.places[2 * (ACCOUNT_LINE - 1):2 * ACCOUNT_LINE]
-    return payload[start:start + length] + b'\n'
+    entries = answer.places[:2 * answer.lines] if isinstance(answer, Accepted) else []
+    places = zip(entries[::2], entries[1::2])
+    lines = [payload[start:start + length] for start, length in places]
+    return b''.join(b'+%d:%s' % (len(text), text) for text in lines) + 2 * DONE + b'\n'
 
 
 def line(payload, size):
@@ -58,23 +53,16 @@ def line(payload, size):
 
 def make():
     """For each line that is to be written a name, and the payload's record with the line."""
-    for case in read_cases(TESTS / 'cases'):
+    for case in read_cases():
         payload = case.payload[:MOST_STORED]
         for size in LIST_SIZES:
-            yield f'{case.name} with {size} numbers', (record(payload), line(payload, size))
-        yield f'{case.name}, its account', (record(payload), account(payload))
-
-
-def stored():
-    """Each record once for each of its lines, with the line of the stored output."""
-    content = (CRATE / 'stdin').read_bytes()
-    repeated = [record for record in records(content, LENGTH_BYTES) for _ in range(LINES)]
-    return zip_longest(repeated, (CRATE / 'stdout').read_bytes().splitlines(keepends=True))
+            yield f'{case.name} with {size} numbers', (framed(payload), line(payload, size))
+        yield f'{case.name}, viewed', (framed(payload), view(payload))
 
 
 def checks():
     """Each check as its name, what should be there, and what is."""
-    for made, got in zip_longest(make(), stored()):
+    for made, got in zip_longest(make(), kept(CRATE, LENGTH_BYTES, LINES)):
         name, expected = made or ('past the last case', None)
         yield name, expected, got
 

@@ -13,12 +13,16 @@ import re
 import sys
 from itertools import product
 from pathlib import Path
-from random import Random
 
+from casefile import bill_lines
+from chance import Dice
+from framing import framed
 from reference.qrbill import first_bad_place, line_of_unlike_break
-from stored import compared, store, told
+from stored import compared, store
+from telling import told
 
 CRATE = Path(__file__).resolve().parent.parent / 'crates' / 'text_cases'
+LENGTH_BYTES = 2
 MOST_INPUT = 65536  # the program holds no more
 MOST_BYTES = 300  # of a record
 
@@ -87,10 +91,7 @@ def answer(record):
 
 # The records.
 
-BASE = (
-    b'SPC|0200|1|CH5800791123000889012|S|Schule Muster|Hofweg|4|8000|Seldwyla|CH||||||||199.95|CHF'
-    b'||||||||SCOR|RF18539007547034|Kurs Mai|EPD'
-)
+BASE = bill_lines('B')
 BREAKS = [b'\n', b'\r\n']
 EDGES = [bytes([byte]) for byte in bytes.fromhex('000A0D207E7F80BFC2C3C8E282AC')]
 CHARACTERS = [text.encode() for text in ' 09AZaz~ÄéüŁſȘȚ€\u00A0']
@@ -139,10 +140,10 @@ def length_records():
 def mixed_records():
     """Runs of edges, of allowed characters with breaks of one kind or of both, and of allowed
     characters with one edge among them."""
-    draw = Random(34)
+    dice = Dice(34)
 
     def drawn(parts, length):
-        return b''.join(parts[int(draw.random() * len(parts))] for _ in range(length))
+        return b''.join(dice.pick(parts) for _ in range(length))
 
     for length in range(5, MOST_BYTES + 1, 12):
         yield drawn(EDGES, length)
@@ -155,16 +156,15 @@ def mixed_records():
 def bill_records():
     """The base bill with either break: as it is, with more breaks, with a byte at every tenth place
     changed to one that begins nothing, and with one break of the other kind."""
-    lines = BASE.split(b'|')
     for one_break, other in (BREAKS, BREAKS[::-1]):
-        bill = one_break.join(lines)
+        bill = one_break.join(BASE)
         yield bill
         yield bill + one_break
         yield bill + 4 * one_break
         for place in range(0, len(bill), 10):
             yield bill[:place] + b'\x07' + bill[place + 1:]
-        for number in range(1, len(lines), 4):
-            yield one_break.join(lines[:number]) + other + one_break.join(lines[number:])
+        for number in range(1, len(BASE), 4):
+            yield one_break.join(BASE[:number]) + other + one_break.join(BASE[number:])
 
 
 def records():
@@ -177,14 +177,14 @@ def records():
 
 # The command.
 
-def framed(record):
+def stored(record):
     """A record as it is stored."""
-    return len(record).to_bytes(2, 'little') + record
+    return framed(record, LENGTH_BYTES)
 
 
 def checks(made):
     """Each check as its name, what should be there, and what is."""
-    yield from compared(CRATE, ((framed(record), line) for record, line in made))
+    yield from compared(CRATE, ((stored(record), line) for record, line in made), LENGTH_BYTES)
     for number, (record, _) in enumerate(made, start=1):
         place = first_bad_place(record)
         walk = walk_answer(record)
@@ -200,7 +200,7 @@ def main():
     made = [(record, answer(record)) for record in records()]
     if sys.argv[1:] == ['--check']:
         return told(checks(made))
-    return store(CRATE, (framed(record) for record, _ in made), (line for _, line in made))
+    return store(CRATE, (stored(record) for record, _ in made), (line for _, line in made))
 
 
 if __name__ == '__main__':

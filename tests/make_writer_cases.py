@@ -11,15 +11,17 @@ line for each failure and at the end `N passed, M failed`.
 
 import sys
 from pathlib import Path
-from random import Random
 from typing import NamedTuple
 
-from casefile import read_cases
+from casefile import bill_lines, read_cases
+from chance import Dice
+from framing import framed, number
 from reference.qrbill import BREAKS, Accepted, Refused, first_bad_place, read, write
-from stored import compared, store, told
+from stored import compared, store
+from telling import told
 
-TESTS = Path(__file__).resolve().parent
-CRATE = TESTS.parent / 'crates' / 'writer_cases'
+CRATE = Path(__file__).resolve().parent.parent / 'crates' / 'writer_cases'
+LENGTH_BYTES = NUMBER_BYTES = 2
 MOST_INPUT = 524288  # the program holds no more
 MOST_NUMBERS = 70  # of a list, in the program
 MOST_ROOM = 1200  # of the program's destination
@@ -57,22 +59,19 @@ def place_of_bad_character(call, line):
 
 def answer(call):
     """The line that the program has to write for a call."""
-    told = write(call.text, call.places, call.count, call.brk, call.room)
-    if isinstance(told, Refused):
-        place = place_of_bad_character(call, told.line) if told.number == 3 else 0
-        numbers, data = [told.number, told.line, place], b''
+    written = write(call.text, call.places, call.count, call.brk, call.room)
+    if isinstance(written, Refused):
+        place = place_of_bad_character(call, written.line) if written.number == 3 else 0
+        numbers, data = [written.number, written.line, place], b''
     else:
-        numbers, data = [0, len(told.data), 0], told.data
+        numbers, data = [0, len(written.data), 0], written.data
     after = data + (call.room - len(data)) * MARK
     return f'{numbers[0]} {numbers[1]} {numbers[2]} {after.hex()}\n'.encode()
 
 
 # Bills to call with.
 
-BASE = (
-    b'SPC|0200|1|CH5800791123000889012|S|Schule Muster|Hofweg|4|8000|Seldwyla|CH||||||||199.95|CHF'
-    b'||||||||SCOR|RF18539007547034|Kurs Mai|EPD'
-)
+BASE = bill_lines('B')
 BASE_LENGTHS = {'LF': 134, 'CRLF': 164}
 OUTSIDE = (0, 65535)
 GARBAGE = (65535, 65535)
@@ -87,14 +86,14 @@ LONGEST = {  # lines as long as they may be, where that breaks no other rule
 def bill(lines=(), places=(), numbers=68, **others):
     """The base bill with other texts for some lines and other places for some lines. The lines lie
     end to end, without breaks: the writer's text need not be a payload."""
-    texts = BASE.split(b'|') + 3 * [b'']
-    for number, text in dict(lines).items():
-        texts[number - 1] = text
+    texts = BASE + 3 * [b'']
+    for line, text in dict(lines).items():
+        texts[line - 1] = text
     laid = []
-    for number, text in enumerate(texts):
-        laid += [len(b''.join(texts[:number])), len(text)]
-    for number, place in dict(places).items():
-        laid[2 * number - 2:2 * number] = place
+    for before, text in enumerate(texts):
+        laid += [len(b''.join(texts[:before])), len(text)]
+    for line, place in dict(places).items():
+        laid[2 * line - 2:2 * line] = place
     return Call(b''.join(texts), (laid + [0, 0])[:numbers], **others)
 
 
@@ -177,11 +176,10 @@ def places_in_the_text():
 
 def backwards(brk):
     """The base bill whose last line comes first in the text."""
-    texts = BASE.split(b'|')
     laid = []
-    for number, text in enumerate(texts):
-        laid += [len(b''.join(texts[number + 1:])), len(text)]
-    return Call(b''.join(reversed(texts)), laid + 6 * [0], brk=brk)
+    for line, text in enumerate(BASE, start=1):
+        laid += [len(b''.join(BASE[line:])), len(text)]
+    return Call(b''.join(reversed(BASE)), laid + 6 * [0], brk=brk)
 
 
 def stray_breaks():
@@ -224,10 +222,11 @@ def long_bill(more, brk):
 
 def round_trips():
     """Every accepted case, written again from its own places."""
-    for case in read_cases(TESTS / 'cases'):
-        told = read(case.payload)
-        if isinstance(told, Accepted):
-            yield Call(case.payload, told.places, told.lines, told.brk, len(case.payload) + 2)
+    for case in read_cases():
+        answered = read(case.payload)
+        if isinstance(answered, Accepted):
+            yield Call(case.payload, answered.places, answered.lines, answered.brk,
+                       len(case.payload) + 2)
 
 
 DAMAGED = 240
@@ -236,17 +235,15 @@ SPOILERS = (0x00, 0x0A, 0x0D, 0x20, 0x30, 0x41, 0x7F, 0x80, 0xC3, 0xE2, 0xFF)
 
 def damaged_bills():
     """Bills with a number or two of the list changed, bytes of the text changed, or both."""
-    draw = Random(15)
-
-    def below(n):
-        return int(draw.random() * n)
-
+    dice = Dice(15)
+    below = dice.below
     for turn in range(DAMAGED):
         brk = 'LF' if below(2) else 'CRLF'
         whole = bill(brk=brk, count=31 + below(2), room=BASE_LENGTHS[brk] - 2 + below(6))
         text, places = bytearray(whole.text), list(whole.places)
         for _ in range(turn % 3):
-            text[below(len(text))] = SPOILERS[below(len(SPOILERS))]
+            spoiler = dice.pick(SPOILERS)
+            text[below(len(text))] = spoiler
         for _ in range(below(3) if turn % 3 else 1):
             places[below(64)] = below(12) if below(2) else below(len(text) + 2)
         yield whole._replace(text=bytes(text), places=places)
@@ -261,21 +258,16 @@ def calls():
 
 # The command.
 
-def two_bytes(number):
-    """A number as it is stored."""
-    return number.to_bytes(2, 'little')
-
-
-def framed(call):
+def stored(call):
     """A call as it is stored."""
     head = [call.count, 1 + list(BREAKS).index(call.brk), call.room, len(call.places)]
-    record = b''.join(map(two_bytes, head + call.places)) + call.text
-    return two_bytes(len(record)) + record
+    numbers = b''.join(number(value, NUMBER_BYTES) for value in head + call.places)
+    return framed(numbers + call.text, LENGTH_BYTES)
 
 
 def checks(made):
     """Each check as its name, what should be there, and what is."""
-    yield from compared(CRATE, ((framed(call), line) for call, line in made))
+    yield from compared(CRATE, ((stored(call), line) for call, line in made), LENGTH_BYTES)
     yield 'input that the program can hold', True, (CRATE / 'stdin').stat().st_size <= MOST_INPUT
     numbers = max(len(call.places) for call, _ in made)
     yield 'lists that the program can hold', True, numbers <= MOST_NUMBERS
@@ -288,7 +280,7 @@ def main():
     made = [(call, answer(call)) for call in calls()]
     if sys.argv[1:] == ['--check']:
         return told(checks(made))
-    return store(CRATE, (framed(call) for call, _ in made), (line for _, line in made))
+    return store(CRATE, (stored(call) for call, _ in made), (line for _, line in made))
 
 
 if __name__ == '__main__':

@@ -2,8 +2,9 @@
 
 Public is what another crate can call: a `pub fn` of a library's lib.rt, or of a file that is
 declared there by `pub mod`. Each has an `ensures`; a theorem in its crate's proofs/OneAnswer.antt
-whose statement names it and no other function, in a file that names its contract; and a row in the
-table of docs/CLAIMS.md, which has no other rows and names two of its crate's must-fail edits. That
+whose statement is `OneAnswer` of it and of its contract, with few exceptions, which are listed
+below; and a row in the table of docs/CLAIMS.md, which has no other rows and names two of its
+crate's must-fail edits. That
 the theorems are proved and the edits refused is for `rt` to say.
 Prints a line for each failure and at the end `N passed, M failed`.
 """
@@ -13,7 +14,7 @@ import sys
 from typing import NamedTuple
 
 from claims import CLAIMS, CRATES, ROOT, section
-from stored import told
+from telling import told
 
 CRATE = re.compile(r'^(\w+):', re.MULTILINE)
 PUBLIC_MODULE = re.compile(r'^pub mod (\w+);', re.MULTILINE)
@@ -26,6 +27,13 @@ THEOREM = re.compile(r'^pub (one-\S+) :(.*?)^\S', re.MULTILINE | re.DOTALL)
 NAMED_FUNCTION = re.compile(r'\bfn\.(\w+)\.')
 NAME = re.compile(r'`([^`]+)`')
 NAMED_CONTRACT = re.compile(r'\bfn\.(\w+)\.(?:Reads\.Learnt|clauses)\b')
+
+# Crates of functions that are proved by hand: their theorems take a reading of the contract that
+# stands in the same file, which shows that the contract says just that.
+OWN_READINGS = {'viewer'}
+# Functions that hand out a part of what they were lent. Two such parts are compared by what a
+# program has of them, and not by the ghost name of the reference (docs/CLAIMS.md).
+PARTS = {('viewer', 'line'), ('viewer', 'line_after'), ('lines', 'line')}
 
 
 class Function(NamedTuple):
@@ -86,6 +94,15 @@ def public_text(crate):
     return '\n'.join(public_texts(source / 'lib.rt', source))
 
 
+def is_of_form(function, statement):
+    """Whether a theorem says that the function's contract, and no other, leaves one answer."""
+    if (function.crate, function.name) in PARTS:
+        return True
+    reading = r'\w+' if function.crate in OWN_READINGS else rf'fn\.{function.name}\.Reads\.Learnt'
+    form = rf'\s*OneAnswer fn\.{function.name}\.ended {reading}\s*'
+    return re.fullmatch(form, statement) is not None
+
+
 def public_functions(crate):
     """The public functions of a library, in the order of its source."""
     return [Function(crate, *found) for found in PUBLIC_FUNCTION.findall(public_text(crate))]
@@ -117,6 +134,8 @@ def checks_of_library(crate, rows):
         named = NAMED_FUNCTION.findall(statements.get(function.theorem, ''))
         yield f'{name}: {function.theorem} names', {function.name}, set(named)
         yield f'{name}: its contract is named', True, function.name in contracts
+        form = is_of_form(function, statements.get(function.theorem, ''))
+        yield f'{name}: {function.theorem} has the form of such theorems', True, form
         yield f'{name}: rows in {CLAIMS.name}', 1, [row.key for row in rows].count(function.key)
 
 

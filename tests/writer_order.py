@@ -4,14 +4,12 @@ The order: a list of fewer than 68 numbers (15); the count (5); a place outside 
 or LF in a line (3); the reader's own answer for the joined bytes; too short a destination (15).
 """
 
+from casefile import bill_lines
 from reference.qrbill import Refused, Written, write
 
-BASE = (
-    b'SPC|0200|1|CH5800791123000889012|S|Schule Muster|Hofweg|4|8000|Seldwyla|CH||||||||199.95|CHF'
-    b'||||||||SCOR|RF18539007547034|Kurs Mai|EPD'
-)
-BASE_LF = BASE.replace(b'|', b'\n')  # 134 bytes
-BASE_CRLF = BASE.replace(b'|', b'\r\n')  # 164 bytes
+BASE = bill_lines('B')
+BASE_LF = b'\n'.join(BASE)  # 134 bytes
+BASE_CRLF = b'\r\n'.join(BASE)  # 164 bytes
 BASE_LENGTH = 104  # without its 30 breaks
 
 OUTSIDE = (0, 65535)
@@ -19,7 +17,7 @@ OUTSIDE = (0, 65535)
 
 def attempt(lines, places, numbers=68, count=31, brk='LF', room=997):
     """Write the base bill with other texts for some lines and other places for some lines."""
-    texts = BASE.split(b'|') + [b'', b'', b'']
+    texts = BASE + 3 * [b'']
     for number, text in lines.items():
         texts[number - 1] = text
     # The lines lie end to end, without breaks: the writer's text need not be a payload.

@@ -1,3 +1,3 @@
 pub mod Numbers
-pub mod Packing
+pub mod Answers
 pub mod OneAnswer

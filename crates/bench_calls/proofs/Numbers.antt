@@ -1,12 +1,12 @@
 -- What the reader and the writer answer is small: a refusal's line is below 1000, as a count of lines to write is; a bill has at most 34 lines and 997 bytes. Assumes nothing.
-use Prim.Native.Nat.{ℕ, suc, _+_, _≤_, _<_}
+use Prim.Native.Nat.{ℕ, _≤_, _<_}
 use native.Mathlib.Omega.{arith}
 use mathlib.Core.Bool.{Bool, true, false, not}
-use mathlib.Core.List.{List, [], _∷_}
+use mathlib.Core.List.{List, []}
 use mathlib.Core.Option.{Option, some, none, Option·map, Option·none-ne-some}
 use mathlib.Core.Path.{_≡_, refl, sym, ap, _∙_}
 use lib.Dec.{ltb, lit≤}
-use lib.ListN.{length, length-append, length-map}
+use lib.ListN.{length, length-map}
 use Rattle.sieve.specs.declared.Answer.{Answer}
 use Rattle.sieve.specs.declared.Answer.the-variants.{Accepted, Refused}
 use Rattle.sieve.specs.declared.Break.{Break}
@@ -15,25 +15,25 @@ use Rattle.sieve.specs.declared.Fault.{Fault}
 use Rattle.sieve.specs.declared.Written.{Written}
 use Rattle.sieve.specs.declared.Written.the-variants.{Length, Refused as NotWritten}
 use Rattle.sieve.specs.Bytes.{Bytes, within, firstSuch}
-use Rattle.sieve.specs.Lines.{billOf, ofBreak, joined}
+use Rattle.sieve.specs.Lines.{joined}
 use Rattle.sieve.specs.Paper.{paperFault, paper, not-laid, paperWritten}
-use Rattle.sieve.specs.Places.{Placed, placed, listSize}
-use Rattle.sieve.specs.Reading.{noRoom, readOnto, readAnswer}
-use Rattle.sieve.specs.Verdict.{Refusal, under, underAt, found, Verdict, accepted, refused, findings, first, settled, verdict}
-use Rattle.sieve.specs.Writing.{outside, spans, part, handed, outsideText, strayBreak, writeFindings, laidOnto, writeAnswer}
-use Rattle.sieve.proofs.Findings.{first-nil, verdict-is, such-at}
+use Rattle.sieve.specs.Places.{placed, listSize}
+use Rattle.sieve.specs.Reading.{noRoom, readOnto, readAnswer, IsRead}
+use Rattle.sieve.specs.Verdict.{Refusal, under, found, Verdict, accepted, refused, first, verdict}
+use Rattle.sieve.specs.Writing.{outside, spans, part, handed, outsideText, strayBreak, writeFindings, laidOnto, writeAnswer, IsWritten}
+use Rattle.sieve.proofs.Findings.{first-nil, such-within}
+use Rattle.sieve.proofs.Strays.{stray-found}
 use Rattle.sieve.proofs.Placing.{length-placed}
 use Rattle.sieve.proofs.WriterPromises.{handed-length, laid-written, laid-accepted}
 use Rattle.swiss.specs.Swiss.{swiss}
-use Rattle.swiss.proofs.Latin.{lawful}
-use Rattle.judge.proofs.Numbers.{Low, low-first, low-found, low-line, line-count}
-use Rattle.reader.specs.Reading.{IsRead}
-use Rattle.writer.specs.Writing.{IsWritten}
-use Rattle.bench_calls.specs.Packing.{mark}
+use Rattle.sieve.proofs.Latin.{lawful}
+use Rattle.sieve.proofs.Numbers.{Each, each-first, each-found}
+use Rattle.swiss.proofs.Numbers.{small-findings, low-line, line-count}
+use Rattle.bench_calls.specs.Calls.{mark}
 
 -- the reader
 
-module _ {p : Bytes} {list after : List ℕ} {q : Answer} (h : IsRead p list q after) where
+module _ {p : Bytes} {list after : List ℕ} {q : Answer} (h : IsRead swiss p list q after) where
   pub read-line : {f : Fault} → q ≡ Refused f → paperFault f .line < 1000
   unfolding readAnswer
   read-line {f} e = go (verdict swiss p) refl (ltb (length list) (listSize swiss)) (sym (h .answer) ∙ ap paper e)
@@ -58,27 +58,15 @@ low-mark CrLf = lit≤ tt
 
 -- the writer
 
+-- what is found names a line below 1000
+abbrev Low : Option Refusal → Type 0
+Low = Each (λ r. r .line < 1000)
+
 low-nil : Low (first [])
 low-nil r e = absurd (Option·none-ne-some r (sym first-nil ∙ e))
 
 low-room : (room wanted : ℕ) → Low (noRoom room wanted)
-low-room room wanted = low-found (ltb room wanted) (under 15 0) (lit≤ tt)
-
-low-findings : (p : Bytes) → Low (first (findings swiss p))
-low-findings p r e = low-line p r (verdict-is swiss p ∙ ap (settled (billOf p)) e)
-
--- a stray break is in one of the lines
-stray-line : (i : ℕ) (ls : List Placed) (r : Refusal) → strayBreak i ls ≡ some r → r .line < i + length ls
-unfolding strayBreak
-stray-line i [] r h = absurd (Option·none-ne-some r h)
-stray-line i (l ∷ ls) r h = go (firstSuch ofBreak (l .start) (l .text)) refl (stray-line (suc i) ls r)
-  where
-    go : (o : Option ℕ) → firstSuch ofBreak (l .start) (l .text) ≡ o → (strayBreak (suc i) ls ≡ some r → r .line < suc i + length ls) → r .line < i + length (l ∷ ls)
-    go none e ih = omega (arith, ih (rw (e, strayBreak) at h))
-    go (some at) e ih =
-        let g : _≡_ {A = Option Refusal} (some (underAt 3 i at)) (some r) = rw (e, strayBreak) at h in
-        let s : underAt 3 i at ≡ r = cc in
-        rw (← s) (omega arith)
+low-room room wanted = each-found (λ r. r .line < 1000) (ltb room wanted) (under 15 0) (lit≤ tt)
 
 module _ (text : Bytes) (list : List ℕ) (count : ℕ) (few : count < 1000) where
   low-outside : Low (outsideText text (spans count list))
@@ -89,24 +77,23 @@ module _ (text : Bytes) (list : List ℕ) (count : ℕ) (few : count < 1000) whe
       go none f h = absurd (Option·none-ne-some r h)
       go (some i) f h =
           let s : under 14 i ≡ r = cc in
-          let w = such-at (outside (length text)) 1 (spans count list) i f in
-          rw (← s) (omega (arith, w .place, ap length (w .whole), length-append (w .before) (w .such ∷ w .after), length-map (spans count list) (part text), handed-length text list count))
+          rw (← s) (omega (arith, such-within (outside (length text)) 1 (spans count list) i f, length-map (spans count list) (part text), handed-length text list count))
 
   module _ (k : Break) where
     low-stray : Low (strayBreak 1 (placed 0 k (handed text list count)))
-    low-stray r e = omega (arith, stray-line 1 (placed 0 k (handed text list count)) r e, length-placed 0 k (handed text list count), handed-length text list count)
+    low-stray r e = omega (arith, stray-found 1 (placed 0 k (handed text list count)) r e .line, length-placed 0 k (handed text list count), handed-length text list count)
 
     low-write : (room : ℕ) → Low (first (writeFindings swiss text list count k room))
     unfolding writeFindings
     low-write room =
-        low-first _ _ (low-room (length list) (listSize swiss))
-        (low-first _ _ (low-found (not (within (swiss .fewest-lines) (swiss .most-lines) count)) (under 5 count) (omega arith))
-        (low-first _ _ low-outside
-        (low-first _ _ low-stray
-        (low-first _ _ (low-findings _)
-        (low-first _ _ (low-room room _) low-nil)))))
+        each-first _ _ (low-room (length list) (listSize swiss))
+        (each-first _ _ (each-found (λ r. r .line < 1000) (not (within (swiss .fewest-lines) (swiss .most-lines) count)) (under 5 count) (omega arith))
+        (each-first _ _ low-outside
+        (each-first _ _ low-stray
+        (each-first _ _ (λ r e. small-findings _ r e .line)
+        (each-first _ _ (low-room room _) low-nil)))))
 
-module _ {text dest after : Bytes} {list : List ℕ} {count : ℕ} {k : Break} {w : Written} (h : IsWritten text list count k dest w after) where
+module _ {text dest after : Bytes} {list : List ℕ} {count : ℕ} {k : Break} {w : Written} (h : IsWritten swiss text list count k dest w after) where
   pub write-line : {f : Fault} → count < 1000 → w ≡ NotWritten f → paperFault f .line < 1000
   unfolding writeAnswer
   write-line {f} few e = go (first (writeFindings swiss text list count k (length dest))) (low-write text list count few k (length dest)) (sym (h .answer) ∙ ap paperWritten e)

@@ -11,7 +11,7 @@ use writer::write;
 ghost use mathlib.Core.Path.{_≡_};
 ghost use Prim.Native.Nat.{_<_};
 ghost use Rattle.sieve.specs.Paper.{paperFault};
-ghost use Rattle.bench_calls.specs.Packing.{packedRefusal, mark, breakFor, IsSieveRead, IsSieveWritten};
+ghost use Rattle.bench_calls.specs.Calls.{packedRefusal, mark, breakFor, IsSieveRead, IsSieveWritten};
 
 // 1000 times the refusal plus the line.
 fn packed_fault(fault: Fault) -> u32

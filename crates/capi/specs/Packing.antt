@@ -22,7 +22,7 @@ packed (refused r) = shift * r .number + r .line
 abbrev pub packedPlace : List ℕ → ℕ → ℕ
 packedPlace places i = shift * getD places (2 * (i - 1)) 0 + getD places (2 * (i - 1) + 1) 0
 
--- where it is accepted and has a line i; else 0
+-- of an accepted payload, for i from 1 to 34, of which an absent line lies at the end and has no bytes; else 0
 abbrev pub packedLine : Bytes → ℕ → Verdict → ℕ
 packedLine p i (refused r) = 0
 packedLine p i (accepted n k) = cond (within 1 mostLines i) (packedPlace (placesOf swiss (billOf p)) i) 0

@@ -1,9 +1,10 @@
 // Calls for C: the verdict on a payload as one number, and the place of a line as one number.
-use judge::judge;
 use sieve::Answer;
 use sieve::line_of;
 use sieve::number_of;
 use swiss::limits::MOST_LINES;
+use swiss_judge::judge;
+use swiss_judge::verdict;
 ghost use mathlib.Core.Path.{_≡_};
 ghost use Prim.Native.Nat.{_≤_};
 ghost use lib.ListN.{length};
@@ -19,9 +20,7 @@ pub const SHIFT: u32 = 1000;
 pub extern "C" fn qrbill_read(payload: &[u8]) -> u32
     ensures { λ r. ⌜ r ≡ packed (verdict swiss (now (payload .entry))) ⌝ }
 {
-    let judged = judge(payload);
-    let answer = judged.answer;
-    match answer {
+    match verdict(payload) {
         Answer::Accepted(n, _) => n as u32,
         Answer::Refused(fault) => SHIFT * number_of(fault) + line_of(fault) as u32,
     }
@@ -42,10 +41,8 @@ fn packed_place(places: &[u16], line: usize) -> u32
 pub extern "C" fn qrbill_line(payload: &[u8], line: u32) -> u32
     ensures { λ r. ⌜ r ≡ packedLine (now (payload .entry)) line (verdict swiss (now (payload .entry))) ⌝ }
 {
-    let judged = judge(payload);
-    let answer = judged.answer;
-    let places = judged.places;
-    match answer {
+    let mut places = [0; 68];
+    match judge(payload, &mut places) {
         Answer::Refused(_) => 0,
         Answer::Accepted(_, _) => {
             let n = line as usize;

@@ -8,7 +8,7 @@ use lib.Dec.{ltb}
 use lib.ListN.{getD}
 use borrow.Author.Tests.{ltb-true, le-leb}
 use Rattle.sieve.specs.Bytes.{Bytes, within, every}
-use Rattle.swiss.specs.Mod10.{nextCarry, carry, checkDigit}
+use Rattle.sieve.specs.Mod10.{nextCarry, carry, checkDigit}
 use Rattle.digits.proofs.Folds.{Fold, after}
 
 -- the carry c after the byte x

@@ -3,9 +3,6 @@ use mathlib.Core.Path.{refl, sym, _∙_}
 use Rattle.sieve.specs.OneAnswer.{OneAnswer}
 use Rattle.digits.proofs as fn
 
-pub one-remainder-after : OneAnswer fn.remainder_after.ended fn.remainder_after.Reads.Learnt
-one-remainder-after κs a x y v w h k = (h ∙ sym k, refl)
-
 pub one-remainder97 : OneAnswer fn.remainder97.ended fn.remainder97.Reads.Learnt
 one-remainder97 κs a x y v w h k = (h ∙ sym k, refl)
 

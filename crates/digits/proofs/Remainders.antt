@@ -6,8 +6,8 @@ use mathlib.Core.Bool.{cond}
 use mathlib.Core.List.{[], _∷_, _++_}
 use mathlib.Core.Path.{_≡_, refl, sym, ap, _∙_}
 use Rattle.sieve.specs.Bytes.{Bytes}
-use Rattle.swiss.specs.Letters.{digit}
-use Rattle.swiss.specs.Mod97.{value, onto, number}
+use Rattle.sieve.specs.Letters.{digit}
+use Rattle.sieve.specs.Mod97.{value, onto, number}
 use Rattle.digits.specs.Weight.{weight}
 use Rattle.digits.proofs.Folds.{Fold, after}
 

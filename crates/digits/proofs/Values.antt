@@ -3,28 +3,18 @@ use Prim.Native.Nat.{ℕ, _+_, _^_, _≤_, _<_}
 use native.Mathlib.Nat.{mul-le-mul-right}
 use native.Mathlib.Numerals.{add-one}
 use native.Mathlib.Omega.{arith}
-use mathlib.Core.Bool.{Bool, true, false, cond, and-eq-true-iff}
-use mathlib.Core.Path.{_≡_, refl}
-use borrow.Author.Tests.{leb-true}
-use Rattle.sieve.specs.Bytes.{within}
-use Rattle.swiss.specs.Letters.{digit, capital, small}
-use Rattle.swiss.specs.Mod97.{value, onto}
-
--- a case of two is within what each is within where it is taken
-case : (n : ℕ) (b : Bool) {x y : ℕ} → (b ≡ true → x ≤ n) → y ≤ n → cond b x y ≤ n
-case n true h k = h refl
-case n false h k = k
-
-pub is-within : (lo hi x : ℕ) → within lo hi x ≡ true → (lo ≤ x) × (x ≤ hi)
-is-within lo hi x e = let p = and-eq-true-iff _ _ .0 e in (leb-true lo x (p .0), leb-true x hi (p .1))
+use mathlib.Core.Bool.{cond}
+use Rattle.sieve.specs.Letters.{digit, capital, small}
+use Rattle.sieve.specs.Mod97.{value, onto}
+use Rattle.sieve.proofs.Bounds.{is-within, case-at-most}
 
 pub value-small : (x : ℕ) → value x ≤ 35
 value-small x =
-    case 35 (digit x) (λ e. omega (arith, is-within 48 57 x e))
-    (case 35 (capital x) (λ e. omega (arith, is-within 65 90 x e)) (case 35 (small x) (λ e. omega (arith, is-within 97 122 x e)) (omega arith)))
+    case-at-most 35 (digit x) (λ e. omega (arith, is-within 48 57 x e))
+    (case-at-most 35 (capital x) (λ e. omega (arith, is-within 65 90 x e)) (case-at-most 35 (small x) (λ e. omega (arith, is-within 97 122 x e)) (omega arith)))
 
 -- one character more takes at most two digits more
 pub onto-small : (k n x : ℕ) → n < 100 ^ k → onto n x < 100 ^ (k + 1)
 onto-small k n x h =
-    let p : cond (digit x) 10 100 ≤ 100 = case 100 (digit x) (λ e. omega arith) (omega arith) in
+    let p : cond (digit x) 10 100 ≤ 100 = case-at-most 100 (digit x) (λ e. omega arith) (omega arith) in
     rw add-one (omega (arith, value-small x, mul-le-mul-right n p))

@@ -3,7 +3,7 @@ use Prim.Native.Nat.{ℕ, _*_}
 use mathlib.Core.Bool.{cond}
 use mathlib.Core.List.{[], _∷_}
 use Rattle.sieve.specs.Bytes.{Bytes}
-use Rattle.swiss.specs.Letters.{digit}
+use Rattle.sieve.specs.Letters.{digit}
 
 -- 10 for each digit of a text and 100 for each other character, multiplied
 unfoldable pub weight : Bytes → ℕ

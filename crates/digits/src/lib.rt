@@ -1,10 +1,10 @@
 // Check digits of texts of any length: MOD 97-10, and modulo 10, recursive.
 ghost use mathlib.Core.Path.{_≡_};
-ghost use Prim.Native.Nat.{_+_, _-_, _%_, _^_, _≤_, _<_};
-ghost use lib.ListN.{length, getD};
-ghost use Rattle.swiss.specs.Letters.{digit};
-ghost use Rattle.swiss.specs.Mod97.{value, onto, number, remainder97, checks97};
-ghost use Rattle.swiss.specs.Mod10.{nextCarry, checkDigit, checks10};
+ghost use Prim.Native.Nat.{_+_, _-_, _%_, _^_, _<_};
+ghost use lib.ListN.{take, getD};
+ghost use Rattle.sieve.specs.Letters.{digit};
+ghost use Rattle.sieve.specs.Mod97.{value, onto, number, remainder97, checks97};
+ghost use Rattle.sieve.specs.Mod10.{nextCarry, checkDigit, checks10};
 
 // One of 0-9.
 fn is_digit(x: u8) -> bool
@@ -53,7 +53,7 @@ fn onto(n: u64, x: u8) -> u64
 
 // The remainder by 97 of the number n with a text more. Only the remainder of what stands before counts, so it keeps no
 // more than that, and no text is too long.
-pub fn remainder_after(n: u64, s: &[u8]) -> u64
+fn remainder_after(n: u64, s: &[u8]) -> u64
     ensures { λ r. ⌜ r ≡ number n (now (s .entry)) % 97 ⌝ }
 {
     let mut r = n % 97;
@@ -84,14 +84,14 @@ pub fn checks97(s: &[u8]) -> bool
     remainder97(s) == 1
 }
 
-// The decimal number that a short text stands for. Nine characters make a number below 100 ^ 9, which a u64 holds.
+// The decimal number that the first nine characters of a text stand for. They make a number below 100 ^ 9, which a u64
+// holds.
 pub fn number(s: &[u8]) -> u64
-    requires { ⌜ length (now s) ≤ 9 ⌝ }
-    ensures { λ r. ⌜ r ≡ number 0 (now (s .entry)) ⌝ }
+    ensures { λ r. ⌜ r ≡ number 0 (take 9 (now (s .entry))) ⌝ }
 {
     let mut n = 0;
     let mut i = 0;
-    while i < s.len() {
+    while (i < 9) & (i < s.len()) {
         n = extended(n, s[i]);
         i += 1;
     }

@@ -1,2 +1,2 @@
-pub mod Firsts
+pub mod Looking
 pub mod OneAnswer

@@ -1,23 +1,42 @@
--- What the code's findings mean, and one rule more. Assumes nothing.
-use mathlib.Core.Bool.{Bool}
-use mathlib.Core.List.{[], _∷_}
+-- What the code's findings mean: what rules find first in lines. Assumes nothing.
+use Prim.Native.Nat.{ℕ, _-_}
+use mathlib.Core.Bool.{Bool, cond}
+use mathlib.Core.List.{List, [], _++_, map}
 use mathlib.Core.Option.{Option, some, none}
 use lib.Dec.{eqb}
-use lib.ListN.{length}
+use lib.ListN.{replicate}
 use Rattle.sieve.specs.Bytes.{Bytes}
-use Rattle.sieve.specs.Verdict.{Refusal, found, first}
-use Rattle.sieve.specs.Paper.{paperFault}
+use Rattle.sieve.specs.Rules.{Rule}
+use Rattle.sieve.specs.Verdict.{Refusal, under, found, aboutLines, first}
 use Rattle.sieve.specs.declared.Fault.{Fault}
+use Rattle.sieve.specs.declared.Fault.the-variants.{NotFixedText, NotEmpty, Missing, TooLong, BadForm, BadCheckDigits, Unpaired, TooLongTogether}
 use Rattle.findings.specs.declared.Finding.{Finding}
-use Rattle.findings.specs.declared.Finding.the-variants.{Kept, Broken}
 
-abbrev pub finding : Finding → Option Refusal
-finding Kept = none
-finding (Broken f) = some (paperFault f)
+-- a refusal in small: its number and its line, or twice 0 where there is none
+abbrev pub small : Option Refusal → Finding
+small none = record { number = 0; line = 0 }
+small (some r) = record { number = r .number; line = r .line }
 
--- what was found before, else this fault, if the rule is broken
-abbrev pub after : Option Refusal → Bool → Fault → Option Refusal
-after before broken fault = first (before ∷ found broken (paperFault fault) ∷ [])
+-- what was found before; else the number and the line of one rule more, if it is broken
+unfoldable pub after : Finding → Bool → ℕ → ℕ → Finding
+after before broken number line = cond (eqb (before .number) 0) (small (found broken (under number line))) before
 
-abbrev pub noText : Bytes → Bool
-noText l = eqb (length l) 0
+-- what rules find first in the lines of a bill
+unfoldable pub finds : List Rule → List Bytes → Finding
+finds rs ls = small (first (map (aboutLines ls) rs))
+
+-- lines that stand from line n on, behind others of which nothing is said
+abbrev pub from : ℕ → List Bytes → List Bytes
+from n ls = replicate (n - 1) [] ++ ls
+
+-- the fault that a finding under rules 6 to 13 is
+abbrev pub faultOf : ℕ → ℕ → Fault
+faultOf number line =
+    cond (eqb number 6) (NotFixedText line)
+    (cond (eqb number 7) (NotEmpty line)
+    (cond (eqb number 8) (Missing line)
+    (cond (eqb number 9) (TooLong line)
+    (cond (eqb number 10) (BadForm line)
+    (cond (eqb number 11) (BadCheckDigits line)
+    (cond (eqb number 12) (Unpaired line)
+    (TooLongTogether line)))))))

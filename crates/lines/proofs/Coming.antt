@@ -1,34 +1,36 @@
 -- The walk, a step at a time: the line that it is in, the breaks that it has passed, and the lines that are noted. Assumes nothing.
-use Prim.Native.Nat.{ℕ, _+_, _-_, _*_, _≤_, _<_}
-use native.Mathlib.Nat.{zero-add}
+use Prim.Native.Nat.{ℕ, zero, suc, _+_, _-_, _*_, _≤_, _<_}
+use native.Mathlib.Nat.{zero-add, add-zero}
 use native.Mathlib.Omega.{arith}
-use mathlib.Core.Bool.{Bool, true, false, cond, not, _&&_}
+use mathlib.Core.Bool.{Bool, true, false, cond, not, _&&_, and-false}
 use mathlib.Core.List.{List, [], _∷_}
 use mathlib.Core.Logic.{_≢_}
 use mathlib.Core.Path.{_≡_, refl, sym, ap, _∙_}
-use lib.Dec.{eqb, ltb, leb}
-use lib.ListN.{length, getD, drop, set, replicate, length-set}
+use lib.Dec.{eqb, ltb}
+use lib.ListN.{length, getD, drop, set}
 use lib.Seq.{drop-drop}
-use borrow.Author.Tests.{eqb-true, eqb-false, ltb-true, ltb-false, ne-eqb, le-ltb, le-leb}
+use borrow.Author.Tests.{eqb-true, eqb-false, ltb-true, ltb-false, eq-eqb, ne-eqb, le-ltb, le-leb}
 use Rattle.sieve.specs.declared.Break.{Break}
 use Rattle.sieve.specs.Bytes.{Bytes}
 use Rattle.sieve.specs.Lines.{breakBytes, cut, breaksOf, kind}
 use Rattle.sieve.specs.Characters.{breakWidth}
 use Rattle.sieve.specs.Lawful.{Plain, no-more, one-more}
 use Rattle.sieve.specs.Places.{entries}
-use Rattle.swiss.specs.Latin.{inOne, latin}
-use Rattle.swiss.proofs.Latin.{lawful}
+use Rattle.sieve.specs.Latin.{inOne, latin}
+use Rattle.sieve.proofs.Latin.{lawful}
 use Rattle.runs.proofs.ByteByByte.{next}
 use Rattle.text.specs.declared.LineAt.{LineAt}
 use Rattle.text.specs.Results.{IsLineAt}
 use Rattle.text.specs.LinesIn.{linesIn}
+use Rattle.text.specs.Runs.{run}
+use Rattle.text.proofs.Runs.{goes-on}
 use Rattle.text.proofs.FirstLine.{stops, ends}
 use Rattle.text.proofs.LinesAt.{within}
-use Rattle.lines.specs.declared.Kinds.{Kinds}
+use Rattle.lines.specs.declared.BreaksPassed.{BreaksPassed}
 use Rattle.lines.specs.declared.Parted.{Parted}
 use Rattle.lines.specs.declared.Parted.the-variants.{Alike, Unlike}
-use Rattle.lines.specs.Listed.{listed, listedOf, Filled}
-use Rattle.lines.specs.Walking.{greatest, ofWidth, breaksIn, heldBy, partedBy, noted}
+use Rattle.lines.specs.Listed.{capacity, room, greatest, listed, listedOf, Filled}
+use Rattle.lines.specs.Walking.{ofWidth, breaksIn, heldBy, partedBy, noted}
 use Rattle.lines.proofs.Stepping.{Come, starts, over-character, over-break}
 use Rattle.lines.proofs.Parting.{partedFrom, no-more as none-more, alike, unlike, from-first, unbroken, broken}
 use Rattle.lines.proofs.Listing.{filled-more, filled-all}
@@ -44,70 +46,72 @@ pub by-itself : (s : Bytes) (at : ℕ) → at < length s → inOne (getD s at 0)
 unfolding latin
 by-itself s at h e = rw (next s at h, e)
 
+-- LF is no character, and a break by itself
+pub line-feed : (s : Bytes) (at : ℕ) → at < length s → getD s at 0 ≡ 10 → (latin (drop at s) ≡ 0) × (1 ≡ breakWidth (drop at s))
+unfolding latin breakWidth
+line-feed s at h e = (rw (next s at h, e), rw (next s at h, e))
+
 -- how the lines are parted, if these breaks come behind n - 1 others
-abbrev heldFrom : Kinds → ℕ → List Break → Parted
-heldFrom k n ks = cond (eqb (k .unlike) 0) (partedFrom (cond (eqb (k .first) 0) (kind ks) (ofWidth (k .first))) n ks) (Unlike (k .unlike))
+abbrev heldFrom : BreaksPassed → ℕ → List Break → Parted
+heldFrom passed n ks = cond (eqb (passed .unlike) 0) (partedFrom (cond (eqb (passed .first) 0) (kind ks) (ofWidth (passed .first))) n ks) (Unlike (passed .unlike))
 
 -- a width is that of a break, or of none
 abbrev Wide : ℕ → Type 0
 Wide b = b ≢ 0 → length (breakBytes (ofWidth b)) ≡ b
 
 -- one break more
-one-held : (k : Kinds) (b n : ℕ) (ks : List Break) → Wide (k .first) → Wide b → b ≢ 0 → n ≢ 0 → heldFrom k n (ofWidth b ∷ ks) ≡ heldFrom (heldBy k b n) (n + 1) ks
-one-held k b n ks wide w h m = go (eqb (k .unlike) 0) (eqb (k .first) 0) (eqb b (k .first)) refl refl refl
+one-held : (passed : BreaksPassed) (b n : ℕ) (ks : List Break) → Wide (passed .first) → Wide b → b ≢ 0 → n ≢ 0 → heldFrom passed n (ofWidth b ∷ ks) ≡ heldFrom (heldBy passed b n) (n + 1) ks
+one-held passed b n ks wide w h m = go (eqb (passed .unlike) 0) (eqb (passed .first) 0) (eqb b (passed .first)) refl refl refl
   where
-    go : (u f d : Bool) → eqb (k .unlike) 0 ≡ u → eqb (k .first) 0 ≡ f → eqb b (k .first) ≡ d → heldFrom k n (ofWidth b ∷ ks) ≡ heldFrom (heldBy k b n) (n + 1) ks
+    go : (u f d : Bool) → eqb (passed .unlike) 0 ≡ u → eqb (passed .first) 0 ≡ f → eqb b (passed .first) ≡ d → heldFrom passed n (ofWidth b ∷ ks) ≡ heldFrom (heldBy passed b n) (n + 1) ks
     go true true d p q r = rw (p, q, p, ne-eqb b 0 h) (alike (ofWidth b) n ks)
     go false true d p q r = rw (p, q, p)
-    go true false true p q r = rw (p, q, r, p, q, ← eqb-true b (k .first) r) (alike (ofWidth b) n ks)
+    go true false true p q r = rw (p, q, r, p, q, ← eqb-true b (passed .first) r) (alike (ofWidth b) n ks)
     go true false false p q r =
         rw (p, q, r, ne-eqb n 0 m)
         (unlike _ n (ofWidth b) ks (λ e. eqb-false _ _ r (sym (w h) ∙ ap (λ (j : Break). length (breakBytes j)) e ∙ wide (eqb-false _ _ q))))
     go false false d p q r = rw (p, q, p)
 
+-- a break that is like the first changes nothing
+pub like-first : (passed : BreaksPassed) (b n : ℕ) → b ≢ 0 → b ≡ passed .first → passed ≡ heldBy passed b n
+like-first passed b n h e = rw (ne-eqb (passed .first) 0 (λ z. h (e ∙ z)), eq-eqb b (passed .first) e, and-false)
+
 -- no break more
-all-held : (k : Kinds) (n : ℕ) → heldFrom k n [] ≡ partedBy k n
-all-held k n = ap (λ (x : Parted). cond (eqb (k .unlike) 0) x (Unlike (k .unlike))) (none-more _ n ∙ ap (λ (j : Break). Alike j n) (go (eqb (k .first) 0) refl))
+all-held : (passed : BreaksPassed) (n : ℕ) → heldFrom passed n [] ≡ partedBy passed n
+all-held passed n = ap (λ (x : Parted). cond (eqb (passed .unlike) 0) x (Unlike (passed .unlike))) (none-more _ n ∙ ap (λ (j : Break). Alike j n) (go (eqb (passed .first) 0) refl))
   where
-    go : (f : Bool) → eqb (k .first) 0 ≡ f → cond f (kind []) (ofWidth (k .first)) ≡ ofWidth (k .first)
-    go true e = rw (eqb-true (k .first) 0 e)
+    go : (f : Bool) → eqb (passed .first) 0 ≡ f → cond f (kind []) (ofWidth (passed .first)) ≡ ofWidth (passed .first)
+    go true e = rw (eqb-true (passed .first) 0 e)
     go false e = refl
 
-pub few-listed : (n : ℕ) → n ≤ 34 → listedOf n ≡ n
-few-listed n h = go (ltb n 34) refl
+few-listed : (n : ℕ) → n ≤ capacity → listedOf n ≡ n
+few-listed n h = go (ltb n capacity) refl
   where
-    go : (b : Bool) → ltb n 34 ≡ b → cond b n 34 ≡ n
+    go : (b : Bool) → ltb n capacity ≡ b → cond b n capacity ≡ n
     go true e = refl
-    go false e = omega (arith, ltb-false n 34 e)
+    go false e = omega (arith, ltb-false n capacity e)
 
-pub many-listed : (n : ℕ) → 34 ≤ n → listedOf n ≡ 34
-many-listed n h = rw (le-ltb n 34 h)
+many-listed : (n : ℕ) → capacity ≤ n → listedOf n ≡ capacity
+many-listed n h = rw (le-ltb n capacity h)
 
 -- a line more that is noted, or one that is not among those that are listed
-module _ (s : Bytes) (l : List ℕ) (start feeds : ℕ) (size : length l ≡ 68) where
-  pub noted-size : (bytes : ℕ) → length (noted l feeds start bytes) ≡ 68
-  noted-size bytes = go (ltb feeds 34 && leb start greatest && leb bytes greatest)
-    where
-      go : (b : Bool) → length (cond b (set (set l (2 * feeds) start) (2 * feeds + 1) bytes) l) ≡ 68
-      go true = simp length-set size
-      go false = size
-
+module _ (s : Bytes) (l : List ℕ) (start feeds : ℕ) (size : length l ≡ room) where
   pub one-noted : (r : LineAt) → IsLineAt s start r → start ≤ length s → length s ≤ greatest → Filled s l start (listedOf feeds) → Filled s (noted l feeds start (r .end - start)) (r .next) (listedOf (feeds + 1))
   unfolding entries
-  one-noted r is h short e = go (ltb feeds 34) refl
+  one-noted r is h short e = go (ltb feeds capacity) refl
     where
-      go : (b : Bool) → ltb feeds 34 ≡ b → Filled s (noted l feeds start (r .end - start)) (r .next) (listedOf (feeds + 1))
+      go : (b : Bool) → ltb feeds capacity ≡ b → Filled s (noted l feeds start (r .end - start)) (r .next) (listedOf (feeds + 1))
       go true few =
-          let next = few-listed (feeds + 1) (omega (arith, ltb-true feeds 34 few)) in
+          let next = few-listed (feeds + 1) (omega (arith, ltb-true feeds capacity few)) in
           let end = within s start r is h in
           rw (next, few, le-leb start greatest (omega arith), le-leb (r .end - start) greatest (omega (arith, is .next)))
           (filled-more s l start feeds r is h (ltb-true _ _ few) size (rw few at e))
       go false many =
-          let next = many-listed (feeds + 1) (omega (arith, ltb-false feeds 34 many)) in
+          let next = many-listed (feeds + 1) (omega (arith, ltb-false feeds capacity many)) in
           rw (many, next) (rw many at e)
 
 -- an absent line more: past the last line the next one starts at the end, and is empty
-pub one-absent : (s : Bytes) (l : List ℕ) (i : ℕ) → i < 34 → length l ≡ 68 → Filled s l (length s) (listedOf i) → Filled s (set (set l (2 * i) (length s)) (2 * i + 1) 0) (length s) (listedOf (i + 1))
+pub one-absent : (s : Bytes) (l : List ℕ) (i : ℕ) → i < capacity → length l ≡ room → Filled s l (length s) (listedOf i) → Filled s (set (set l (2 * i) (length s)) (2 * i + 1) 0) (length s) (listedOf (i + 1))
 one-absent s l i h size e =
     let (empty, none) = ends s (length s) (omega arith) in
     let r : LineAt = record { end = length s; next = length s } in
@@ -115,26 +119,26 @@ one-absent s l i h size e =
     let nothing : length s - length s ≡ 0 = omega arith in
     rw (few-listed (i + 1) (omega arith), ← nothing) (filled-more s l (length s) i r is (omega arith) h size (rw (few-listed i (omega arith)) at e))
 
-pub all-listed : (s : Bytes) (l : List ℕ) (at i : ℕ) → 34 ≤ i → length l ≡ 68 → Filled s l at (listedOf i) → l ≡ listed s
-all-listed s l at i h size e = filled-all s l at 34 (omega arith) (omega arith) size (rw (many-listed i h) at e)
+pub all-listed : (s : Bytes) (l : List ℕ) (at i : ℕ) → capacity ≤ i → length l ≡ room → Filled s l at (listedOf i) → l ≡ listed s
+all-listed s l at i h size e = filled-all s l at capacity (omega arith) (omega arith) size (rw (many-listed i h) at e)
 
 -- where the walk has come to
-pub record Here (s : Bytes) (l : List ℕ) (at start feeds : ℕ) (k : Kinds) : Type 0 where
+pub record Here (s : Bytes) (l : List ℕ) (at start feeds : ℕ) (passed : BreaksPassed) : Type 0 where
   pub come : Come s at feeds
   pub before : start ≤ at
   pub line : start + length (cut (drop start s) .first) ≡ at + length (cut (drop at s) .first)
-  pub breaks : breaksIn s ≡ heldFrom k (feeds + 1) (breaksOf (cut (drop start s)))
-  pub wide : Wide (k .first)
-  pub size : length l ≡ 68
+  pub breaks : breaksIn s ≡ heldFrom passed (feeds + 1) (breaksOf (cut (drop start s)))
+  pub wide : Wide (passed .first)
   pub listed : length s ≤ greatest → Filled s l start (listedOf feeds)
 
-pub begins : (s : Bytes) → Here s (replicate 68 0) 0 0 0 (record { first = 0; unlike = 0 })
+-- it starts at the first byte, whatever the list that is lent holds
+pub begins : (s : Bytes) (l : List ℕ) → Here s l 0 0 0 (record { first = 0; unlike = 0 })
 unfolding listed linesIn
-begins s = record { come = starts s; before = omega arith; line = refl; breaks = from-first s; wide = λ h. absurd (h refl); size = refl; listed = λ h. refl }
+begins s l = record { come = starts s; before = omega arith; line = refl; breaks = from-first s; wide = λ h. absurd (h refl); listed = λ h. refl }
 
-module _ (s : Bytes) (l : List ℕ) (at start feeds : ℕ) (k : Kinds) (here : Here s l at start feeds k) where
+module _ (s : Bytes) (l : List ℕ) (at start feeds : ℕ) (passed : BreaksPassed) (here : Here s l at start feeds passed) where
   -- a character is passed
-  pub character : (n : ℕ) → n ≡ latin (drop at s) → n ≢ 0 → Here s l (at + n) start feeds k
+  pub character : (n : ℕ) → n ≡ latin (drop at s) → n ≢ 0 → Here s l (at + n) start feeds passed
   character n e h =
       let plain = rw (← e, drop-drop n at s) at (plain-first (lawful .plain (drop at s))) in
       record {
@@ -143,12 +147,11 @@ module _ (s : Bytes) (l : List ℕ) (at start feeds : ℕ) (k : Kinds) (here : H
         line = omega (arith, here .line, plain);
         breaks = here .breaks;
         wide = here .wide;
-        size = here .size;
         listed = here .listed;
       }
 
-  -- a break is passed
-  module _ (b : ℕ) (in-bytes : at < length s) (z : latin (drop at s) ≡ 0) (e : b ≡ breakWidth (drop at s)) (h : b ≢ 0) where
+  -- a break is passed, and its line noted in a list that has room for it
+  module _ (size : length l ≡ room) (b : ℕ) (in-bytes : at < length s) (z : latin (drop at s) ≡ 0) (e : b ≡ breakWidth (drop at s)) (h : b ≢ 0) where
     abbrev found : LineAt
     found = record { end = at; next = at + b }
 
@@ -161,33 +164,40 @@ module _ (s : Bytes) (l : List ℕ) (at start feeds : ℕ) (k : Kinds) (here : H
     its-break : (breaksOf (cut (drop start s)) ≡ ofWidth b ∷ breaksOf (cut (drop (at + b) s))) × (length (breakBytes (ofWidth b)) ≡ b)
     its-break = let r = broken s start found is-line (λ w. h (sym width-is ∙ w)) in (rw width-is at (r .breaks), rw width-is at (r .width))
 
-    still-wide : Wide (heldBy k b (feeds + 1) .first)
-    still-wide = go (eqb (k .first) 0) (eqb (k .unlike) 0 && not (eqb b (k .first)))
+    still-wide : Wide (heldBy passed b (feeds + 1) .first)
+    still-wide = go (eqb (passed .first) 0) (eqb (passed .unlike) 0 && not (eqb b (passed .first)))
       where
-        go : (f d : Bool) → Wide ((cond f (record { first = b; unlike = k .unlike }) (cond d (record { first = k .first; unlike = feeds + 1 }) k)) .first)
+        go : (f d : Bool) → Wide ((cond f (record { first = b; unlike = passed .unlike }) (cond d (record { first = passed .first; unlike = feeds + 1 }) passed)) .first)
         go true d w = its-break .1
         go false true w = here .wide w
         go false false w = here .wide w
 
-    pub a-break-passed : Here s (noted l feeds start (at - start)) (at + b) (at + b) (feeds + 1) (heldBy k b (feeds + 1))
+    pub a-break-passed : Here s (noted l feeds start (at - start)) (at + b) (at + b) (feeds + 1) (heldBy passed b (feeds + 1))
     a-break-passed = record {
       come = over-break s at feeds (here .come) b z e h;
       before = omega arith;
       line = refl;
-      breaks = here .breaks ∙ ap (heldFrom k (feeds + 1)) (its-break .0) ∙ one-held k b (feeds + 1) _ (here .wide) (λ w. its-break .1) h (λ w. omega arith);
+      breaks = here .breaks ∙ ap (heldFrom passed (feeds + 1)) (its-break .0) ∙ one-held passed b (feeds + 1) _ (here .wide) (λ w. its-break .1) h (λ w. omega arith);
       wide = still-wide;
-      size = noted-size s l start feeds (here .size) (at - start);
-      listed = λ short. one-noted s l start feeds (here .size) found is-line (omega (arith, here .before)) short (here .listed short);
+      listed = λ short. one-noted s l start feeds size found is-line (omega (arith, here .before)) short (here .listed short);
     }
 
   -- nothing is left
-  pub all-passed : length s ≤ at → partedBy k (feeds + 1) ≡ breaksIn s
+  pub all-passed : length s ≤ at → partedBy passed (feeds + 1) ≡ breaksIn s
   all-passed h =
       let (first-none, width-none) = ends s at h in
       let r : LineAt = record { end = at; next = at } in
       let is : IsLineAt s start r = record { end = omega (arith, here .line); next = omega arith } in
-      sym (here .breaks ∙ ap (heldFrom k (feeds + 1)) (unbroken s start r is (omega arith)) ∙ all-held k (feeds + 1))
+      sym (here .breaks ∙ ap (heldFrom passed (feeds + 1)) (unbroken s start r is (omega arith)) ∙ all-held passed (feeds + 1))
 
   -- the last line ends with the bytes
   pub line-ends : length s ≤ at → start + length (cut (drop start s) .first) ≡ length s
   line-ends h = omega (arith, here .line, ends s at h .0, here .come .within)
+
+-- a run of characters by themselves is passed
+pub run-passed : (s : Bytes) (l : List ℕ) (at start feeds : ℕ) (passed : BreaksPassed) (n : ℕ) → run inOne (drop at s) ≡ n → Here s l at start feeds passed → Here s l (at + n) start feeds passed
+run-passed s l at start feeds passed zero e here = rw add-zero here
+run-passed s l at start feeds passed (suc n) e here =
+    let (h, one, more) = goes-on inOne s at n e in
+    let q : at + suc n ≡ at + 1 + n = omega arith in
+    rw q (run-passed s l (at + 1) start feeds passed n more (character s l at start feeds passed here 1 (by-itself s at h one) (λ z. omega arith)))

@@ -14,7 +14,7 @@ use Rattle.text.specs.declared.LineAt.{LineAt}
 use Rattle.text.specs.Results.{IsLineAt}
 use Rattle.text.specs.LinesIn.{linesFrom, linesAt}
 use Rattle.text.proofs.LinesAt.{Onward, nothing, a-break, onward}
-use Rattle.lines.specs.Listed.{listed, Filled}
+use Rattle.lines.specs.Listed.{capacity, room, listed, Filled}
 
 -- past the end there are only absent lines, which look like one empty line there
 at-end : (p : Bytes) (n : ℕ) → entries n (length p) (linesAt p (length p)) ≡ entries n (length p) []
@@ -29,7 +29,7 @@ last-ends p at h e =
     omega (arith, ap length g, length-append (cut (drop at p) .first) [], length-drop at p)
 
 -- an entry for the line at a place, and then the entries of those from the next place on
-pub one-entry : (p : Bytes) (n at : ℕ) (r : LineAt) → IsLineAt p at r → at ≤ length p
+one-entry : (p : Bytes) (n at : ℕ) (r : LineAt) → IsLineAt p at r → at ≤ length p
     → entries (suc n) (length p) (linesAt p at) ≡ at ∷ (r .end - at) ∷ entries n (length p) (linesAt p (r .next))
 unfolding entries linesFrom
 one-entry p n at r is h = go (onward p at r is)
@@ -46,7 +46,7 @@ one-entry p n at r is h = go (onward p at r is)
         rw (f, q, bytes)
 
 -- two numbers more
-pub two-more : (l : List ℕ) (i a b : ℕ) → i + 1 < length l → take (i + 2) (set (set l i a) (i + 1) b) ≡ take i l ++ (a ∷ b ∷ [])
+two-more : (l : List ℕ) (i a b : ℕ) → i + 1 < length l → take (i + 2) (set (set l i a) (i + 1) b) ≡ take i l ++ (a ∷ b ∷ [])
 two-more l i a b h =
     let n : i + 2 ≡ suc (i + 1) = omega arith in
     let e = take-suc-set (set l i a) (i + 1) b (rw length-set h) in
@@ -54,18 +54,18 @@ two-more l i a b h =
     rw n (e ∙ rw (add-one, f) (append-assoc (take i l) (a ∷ []) (b ∷ [])))
 
 -- one line more is noted
-pub filled-more : (p : Bytes) (l : List ℕ) (at n : ℕ) (r : LineAt) → IsLineAt p at r → at ≤ length p → n < 34 → length l ≡ 68 → Filled p l at n
+pub filled-more : (p : Bytes) (l : List ℕ) (at n : ℕ) (r : LineAt) → IsLineAt p at r → at ≤ length p → n < capacity → length l ≡ room → Filled p l at n
     → Filled p (set (set l (2 * n) at) (2 * n + 1) (r .end - at)) (r .next) (n + 1)
 filled-more p l at n r is h k size e =
     let two : 2 * (n + 1) ≡ 2 * n + 2 = omega arith in
-    let m : suc (34 - (n + 1)) ≡ 34 - n = omega arith in
-    let rest = entries (34 - (n + 1)) (length p) (linesAt p (r .next)) in
-    let more : entries (34 - n) (length p) (linesAt p at) ≡ at ∷ (r .end - at) ∷ rest = rw (← m) (one-entry p (34 - (n + 1)) at r is h) in
+    let m : suc (capacity - (n + 1)) ≡ capacity - n = omega arith in
+    let rest = entries (capacity - (n + 1)) (length p) (linesAt p (r .next)) in
+    let more : entries (capacity - n) (length p) (linesAt p at) ≡ at ∷ (r .end - at) ∷ rest = rw (← m) (one-entry p (capacity - (n + 1)) at r is h) in
     rw (two, two-more l (2 * n) at (r .end - at) (omega arith), append-assoc (take (2 * n) l) (at ∷ (r .end - at) ∷ []) rest)
     (ap (λ (t : List ℕ). take (2 * n) l ++ t) (sym more) ∙ e)
 
-pub filled-all : (p : Bytes) (l : List ℕ) (at n : ℕ) → 34 ≤ n → n ≤ 34 → length l ≡ 68 → Filled p l at n → l ≡ listed p
+pub filled-all : (p : Bytes) (l : List ℕ) (at n : ℕ) → capacity ≤ n → n ≤ capacity → length l ≡ room → Filled p l at n → l ≡ listed p
 unfolding entries
 filled-all p l at n h k size e =
-    let q : n ≡ 34 = omega arith in
-    sym (take-all 68 l (omega arith)) ∙ sym (append-nil (take 68 l)) ∙ rw q at e
+    let q : n ≡ capacity = omega arith in
+    sym (take-all room l (omega arith)) ∙ sym (append-nil (take room l)) ∙ rw q at e

@@ -13,10 +13,11 @@ use Rattle.sieve.specs.Characters.{Width, breakWidth, passes, walk, badPlace, l
 use Rattle.sieve.specs.Breaks.{Passed, none-passed, one-passed}
 use Rattle.sieve.proofs.Widths.{passes-other}
 use Rattle.sieve.proofs.Walking.{walk-passed, walk-stops}
-use Rattle.swiss.specs.Latin.{latin}
+use Rattle.sieve.specs.Latin.{latin}
 use Rattle.lines.specs.declared.Walked.the-variants.{Clean, Bad}
 use Rattle.lines.specs.Walking.{walked}
-use Rattle.text.proofs.Fronts.{Front, feeds-append, feeds-few, character-front, break-front}
+use Rattle.sieve.proofs.LineFeeds.{feeds-append, feeds-few}
+use Rattle.text.proofs.Fronts.{Front, character-front, break-front}
 
 -- the walk has come to a place: what it does from there on, and the LF bytes that it has passed
 pub record Come (s : Bytes) (at feeds : ℕ) : Type 0 where

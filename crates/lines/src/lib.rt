@@ -1,18 +1,21 @@
-// The walk over a payload: its characters, its breaks, and where its lines lie.
+// The walk over a payload: its characters, its breaks, and where its lines lie; and each line, by the list of places.
 use sieve::Break;
-use swiss::limits::MOST_LINES;
 use text::break_width;
 use text::in_one;
+use text::plain_end;
 use text::width;
-ghost use mathlib.Core.Bool.{cond};
 ghost use mathlib.Core.Path.{_≡_};
 ghost use Prim.Native.Nat.{_≤_};
-ghost use lib.Dec.{leb};
 ghost use lib.ListN.{length, replicate};
+ghost use Rattle.sieve.specs.Lines.{cut, linesOf};
+ghost use Rattle.sieve.specs.Rules.{line};
 ghost use Rattle.sieve.specs.Characters.{badPlace};
-ghost use Rattle.swiss.specs.Latin.{latin};
-ghost use Rattle.lines.specs.Listed.{listed, listedOf, Filled};
-ghost use Rattle.lines.specs.Walking.{greatest, ofWidth, partedBy, noted, heldBy, IsCame, IsTold};
+ghost use Rattle.sieve.specs.Latin.{latin};
+ghost use Rattle.lines.specs.Listed.{capacity, room, greatest, listed, listedShort, listedOf, Filled};
+ghost use Rattle.lines.specs.Walking.{ofWidth, partedBy, noted, heldBy, IsCame, IsTold};
+
+// How many lines the list has room for.
+pub const CAPACITY: usize = 34;
 
 // The greatest number of 16 bits.
 const GREATEST: usize = 65535;
@@ -32,16 +35,14 @@ pub enum Parted {
     Unlike(usize),
 }
 
-// All that one walk tells. Where a byte is bad, the lines are not told: one line, and 68 times 0.
+// All that one walk tells, beside the list that it fills. Where a byte is bad, the lines are not told: one line.
 pub struct Told {
     pub walked: Walked,
     pub parted: Parted,
-    // start and length of each of 34 lines; 68 times 0 where the bytes are more than 16 bits count
-    pub places: [u16; 68],
 }
 
 // The breaks that were passed: the width of the first, and the line that the first unlike it ends; 0 where there is none.
-struct Kinds {
+struct BreaksPassed {
     first: usize,
     unlike: usize,
 }
@@ -49,41 +50,48 @@ struct Kinds {
 // Where the walk has come to: what it found, the breaks that it passed and how many, and where the last line starts.
 struct Came {
     walked: Walked,
-    kinds: Kinds,
+    breaks: BreaksPassed,
     feeds: usize,
     start: usize,
-    places: [u16; 68],
 }
 
-const NO_BREAKS: Kinds = Kinds {
+const NO_BREAKS: BreaksPassed = BreaksPassed {
     first: 0,
     unlike: 0,
 };
 
 // One break more, which ends line n.
-fn held(kinds: Kinds, width: usize, n: usize) -> Kinds
-    ensures { λ r. ⌜ r ≡ heldBy kinds width n ⌝ }
+fn held(breaks: BreaksPassed, width: usize, n: usize) -> BreaksPassed
+    ensures { λ r. ⌜ r ≡ heldBy breaks width n ⌝ }
 {
-    let first = kinds.first;
-    let unlike = kinds.unlike;
+    let first = breaks.first;
+    let unlike = breaks.unlike;
     if first == 0 {
-        return Kinds {
+        return BreaksPassed {
             first: width,
             unlike,
         };
     }
     if (unlike == 0) & (width != first) {
-        return Kinds { first, unlike: n };
+        return BreaksPassed { first, unlike: n };
     }
-    Kinds { first, unlike }
+    BreaksPassed { first, unlike }
 }
 
-// Notes a line behind n others, where it is among the lines that are listed.
+// Clears a list: all numbers 0.
+pub fn clear(places: &mut [u16; 68])
+    ensures { λ _. ⌜ now (places .exit) ≡ replicate room 0 ⌝ }
+{
+    *places = [0; 68];
+}
+
+// Notes a line behind n others, where it is among the lines that are listed. The list comes as a slice, since a proof
+// learns how many numbers an array has where the array is lent as one.
 fn note(places: &mut [u16], n: usize, start: usize, bytes: usize)
-    requires { ⌜ length (now places) ≡ 68 ⌝ }
+    requires { ⌜ length (now places) ≡ room ⌝ }
     ensures { λ _. ⌜ now (places .exit) ≡ noted (now (places .entry)) n start bytes ⌝ }
 {
-    if (n < MOST_LINES) & (start <= GREATEST) & (bytes <= GREATEST) {
+    if (n < CAPACITY) & (start <= GREATEST) & (bytes <= GREATEST) {
         places[2 * n] = start as u16;
         places[2 * n + 1] = bytes as u16;
     }
@@ -91,46 +99,51 @@ fn note(places: &mut [u16], n: usize, start: usize, bytes: usize)
 
 // Walks line by line, and in each line character by character, to the first place where neither a character nor a
 // break begins. What ends a line is one LF, alone or after CR, so the lines are counted by their LF. Most characters are
-// one byte, and are passed by the shortest way.
-fn come(s: &[u8]) -> Came
-    ensures { λ r. ⌜ IsCame (now (s .entry)) r ⌝ }
+// one byte, and are passed run by run; most breaks are LF, and like the first one.
+fn come(s: &[u8], places: &mut [u16; 68]) -> Came
+    ensures { λ r. ⌜ IsCame (now (s .entry)) r (now (places .exit)) ⌝ }
 {
-    let mut places = [0u16; 68];
     let mut at = 0;
     let mut start = 0;
     let mut feeds = 0;
-    let mut kinds = NO_BREAKS;
+    let mut breaks = NO_BREAKS;
     let mut walked = Walked::Clean;
     'lines: while at < s.len() {
         while at < s.len() {
-            if in_one(s[at]) {
-                at += 1;
+            let x = s[at];
+            if in_one(x) {
+                at = plain_end(s, at + 1);
                 continue;
             }
-            let n = width(s, at);
-            if n == 0 {
-                let b = break_width(s, at);
+            let mut b = 1;
+            if x != 10 {
+                let n = width(s, at);
+                if n != 0 {
+                    at += n;
+                    continue;
+                }
+                b = break_width(s, at);
                 if b == 0 {
                     let line = 1 + feeds;
                     walked = Walked::Bad(line, at);
                     break 'lines;
                 }
-                note(&mut places, feeds, start, at - start);
-                feeds += 1;
-                kinds = held(kinds, b, feeds);
-                at += b;
-                start = at;
-                break;
             }
-            at += n;
+            note(places, feeds, start, at - start);
+            feeds += 1;
+            if b != breaks.first {
+                breaks = held(breaks, b, feeds);
+            }
+            at += b;
+            start = at;
+            break;
         }
     }
     Came {
         walked,
-        kinds,
+        breaks,
         feeds,
         start,
-        places,
     }
 }
 
@@ -142,67 +155,79 @@ fn break_of(width: usize) -> Break
 }
 
 // How n lines are parted, if these are the breaks between them.
-fn parted_by(kinds: Kinds, n: usize) -> Parted
-    ensures { λ r. ⌜ r ≡ partedBy kinds n ⌝ }
+fn parted_by(breaks: BreaksPassed, n: usize) -> Parted
+    ensures { λ r. ⌜ r ≡ partedBy breaks n ⌝ }
 {
-    let unlike = kinds.unlike;
+    let unlike = breaks.unlike;
     if unlike == 0 {
-        return Parted::Alike(break_of(kinds.first), n);
+        return Parted::Alike(break_of(breaks.first), n);
     }
     Parted::Unlike(unlike)
 }
 
-// The list, in which n lines are noted: an absent line gets the count of all bytes and 0.
-fn list_absent(s: &[u8], noted: [u16; 68], n: usize) -> [u16; 68]
-    requires { ⌜ (length (now s) ≤ 65535) × (length noted ≡ 68) × Filled (now s) noted (length (now s)) (listedOf n) ⌝ }
-    ensures { λ r. ⌜ r ≡ listed (now (s .entry)) ⌝ }
+// The rest of a list in which n lines are noted: an absent line gets the count of all bytes and 0.
+fn list_absent(s: &[u8], places: &mut [u16], n: usize)
+    requires { ⌜ (length (now s) ≤ greatest) × (length (now places) ≡ room) ⌝ }
+    requires { ⌜ Filled (now s) (now places) (length (now s)) (listedOf n) ⌝ }
+    ensures { λ _. ⌜ now (places .exit) ≡ listed (now (s .entry)) ⌝ }
 {
-    let mut places = noted;
     let end = s.len();
     let mut i = n;
-    while i < MOST_LINES {
+    while i < CAPACITY {
         places[2 * i] = end as u16;
         places[2 * i + 1] = 0;
         i += 1;
     }
-    places
 }
 
-// The list of bytes of which none is bad: their last line ends with them.
-fn list(s: &[u8], came: Came) -> [u16; 68]
-    requires { ⌜ IsCame (now s) came × (came .walked ≡ Walked.Clean) ⌝ }
-    ensures { λ r. ⌜ r ≡ cond (leb (length (now (s .entry))) greatest) (listed (now (s .entry))) (replicate 68 0) ⌝ }
+// The list of bytes of which none is bad: their last line ends with them. 16 bits do not count more than GREATEST.
+fn list(s: &[u8], came: Came, places: &mut [u16; 68])
+    requires { ⌜ IsCame (now s) came (now places) × (came .walked ≡ Walked.Clean) ⌝ }
+    ensures { λ _. ⌜ now (places .exit) ≡ listedShort (now (s .entry)) ⌝ }
 {
     if GREATEST < s.len() {
-        return [0; 68];
+        clear(places);
+        return;
     }
-    let mut places = came.places;
     let start = came.start;
     let feeds = came.feeds;
-    note(&mut places, feeds, start, s.len() - start);
-    list_absent(s, places, feeds + 1)
+    note(places, feeds, start, s.len() - start);
+    list_absent(s, places, feeds + 1);
 }
 
-// The whole walk, over any bytes.
-pub fn walk(s: &[u8]) -> Told
-    ensures { λ r. ⌜ IsTold (now (s .entry)) (badPlace latin (now (s .entry))) r ⌝ }
+// The whole walk, over any bytes. The list that is lent gets start and length of each of 34 lines; it is cleared where
+// a byte is bad, or where the bytes are more than 16 bits count.
+pub fn walk(s: &[u8], places: &mut [u16; 68]) -> Told
+    ensures { λ r. ⌜ IsTold (now (s .entry)) (badPlace latin (now (s .entry))) r (now (places .exit)) ⌝ }
 {
-    let came = come(s);
+    let came = come(s, places);
     let walked = came.walked;
     match walked {
-        Walked::Bad(line, at) => Told {
-            walked: Walked::Bad(line, at),
-            parted: Parted::Alike(Break::Lf, 1),
-            places: [0; 68],
-        },
+        Walked::Bad(line, at) => {
+            clear(places);
+            Told {
+                walked: Walked::Bad(line, at),
+                parted: Parted::Alike(Break::Lf, 1),
+            }
+        }
         Walked::Clean => {
-            let kinds = came.kinds;
+            let breaks = came.breaks;
             let lines = came.feeds + 1;
+            list(s, came, places);
             Told {
                 walked: Walked::Clean,
-                parted: parted_by(kinds, lines),
-                places: list(s, came),
+                parted: parted_by(breaks, lines),
             }
         }
     }
+}
+
+// Line n of a payload, as that part of it, by the list that the walk made.
+pub fn line<'a, 'b>(payload: &'a [u8], places: &'b [u16; 68], n: usize) -> &'a [u8]
+    requires { ⌜ (now places ≡ listed (now payload)) × (1 ≤ n) × (n ≤ capacity) ⌝ }
+    ensures { λ r. ⌜ now r ≡ line n (linesOf (cut (now (payload .entry)))) ⌝ }
+{
+    let start = places[2 * n - 2] as usize;
+    let end = start + places[2 * n - 1] as usize;
+    &payload[start..end]
 }

@@ -1,13 +1,17 @@
 -- What a user of the reader may rely on, stated on its contract. Assumes nothing.
-use Prim.Native.Nat.{ℕ, _≤_}
+use Prim.Native.Nat.{ℕ, _≤_, _<_}
+use native.Mathlib.Omega.{arith}
+use mathlib.Core.Bool.{Bool, true, false}
 use mathlib.Core.List.{List}
-use mathlib.Core.Path.{_≡_, sym, _∙_}
-use lib.Dec.{lit≤}
+use mathlib.Core.Path.{_≡_, refl, sym, ap, _∙_}
+use lib.Dec.{ltb, lit≤}
 use lib.ListN.{length, drop}
+use borrow.Author.Tests.{ltb-true}
 use Rattle.sieve.specs.declared.Answer.{Answer}
 use Rattle.sieve.specs.declared.Answer.the-variants.{Accepted, Refused}
 use Rattle.sieve.specs.declared.Break.{Break}
 use Rattle.sieve.specs.declared.Fault.{Fault}
+use Rattle.sieve.specs.declared.Fault.the-variants.{NoRoom}
 use Rattle.sieve.specs.Bytes.{Bytes}
 use Rattle.sieve.specs.Lines.{Bill, written}
 use Rattle.sieve.specs.Paper.{paperFault}
@@ -15,17 +19,19 @@ use Rattle.sieve.specs.Keeps.{Keeps}
 use Rattle.sieve.specs.Demand.{Is, Earliest}
 use Rattle.sieve.specs.Writing.{handed}
 use Rattle.sieve.proofs.PaperLosesNothing.{one-answer}
-use Rattle.sieve.proofs.ReaderPromises.{accepted-reads, refused-reads, bill-reads}
+use Rattle.sieve.proofs.ReaderPromises.{accepted-no-room, accepted-reads, refused-reads, bill-reads}
 use Rattle.swiss.specs.Swiss.{swiss}
-use Rattle.swiss.proofs.Latin.{lawful}
-use Rattle.reader.specs.Reading.{IsRead}
+use Rattle.swiss.proofs.Numbers.{never-14-or-15}
+use Rattle.sieve.proofs.Latin.{lawful}
+use Rattle.sieve.specs.Reading.{readOnto, readAnswer, IsRead}
+use Rattle.sieve.specs.Verdict.{under, found, Verdict, accepted, refused, verdict}
 
 -- one answer, and one content of the list
-pub one-reading : (p : Bytes) (list : List ℕ) (q r : Answer) (a b : List ℕ) → IsRead p list q a → IsRead p list r b → (q ≡ r) × (a ≡ b)
+pub one-reading : (p : Bytes) (list : List ℕ) (q r : Answer) (a b : List ℕ) → IsRead swiss p list q a → IsRead swiss p list r b → (q ≡ r) × (a ≡ b)
 one-reading p list q r a b h k = (one-answer q r (h .answer ∙ sym (k .answer)), h .lent ∙ sym (k .lent))
 
 -- given room, what is accepted is a bill that keeps every rule and is written as those bytes, and the places cut out its lines
-pub accepted-is-bill : (p : Bytes) (list after : List ℕ) (n : ℕ) (k : Break) → 68 ≤ length list → IsRead p list (Accepted n k) after
+pub accepted-is-bill : (p : Bytes) (list after : List ℕ) (n : ℕ) (k : Break) → 68 ≤ length list → IsRead swiss p list (Accepted n k) after
     → (b : Bill) × Is swiss p n k b × (handed p after n ≡ b .lines) × (drop 68 after ≡ drop 68 list)
 unfolding swiss
 accepted-is-bill p list after n k room h =
@@ -33,13 +39,30 @@ accepted-is-bill p list after n k room h =
     (r .bill, r .is, rw (h .lent) (r .cut-out), rw (h .lent) (r .rest))
 
 -- every bill that keeps the rules is accepted, with its line count and its break
-pub bill-is-accepted : (b : Bill) (list after : List ℕ) (r : Answer) → 68 ≤ length list → Keeps swiss b → IsRead (written b) list r after → r ≡ Accepted (length (b .lines)) (b .break)
+pub bill-is-accepted : (b : Bill) (list after : List ℕ) (r : Answer) → 68 ≤ length list → Keeps swiss b → IsRead swiss (written b) list r after → r ≡ Accepted (length (b .lines)) (b .break)
 unfolding swiss
 bill-is-accepted b list after r room h k = one-answer r _ (k .answer ∙ bill-reads swiss (λ ls. lawful) (lit≤ tt) b list room h)
 
 -- any other payload is refused under the earliest rule that it breaks, and no number of the list changes
-pub refused-is-earliest : (p : Bytes) (list after : List ℕ) (f : Fault) → 68 ≤ length list → IsRead p list (Refused f) after → Earliest swiss p (paperFault f) × (after ≡ list)
+pub refused-is-earliest : (p : Bytes) (list after : List ℕ) (f : Fault) → 68 ≤ length list → IsRead swiss p list (Refused f) after → Earliest swiss p (paperFault f) × (after ≡ list)
 unfolding swiss
 refused-is-earliest p list after f room h =
     let (e, l) = refused-reads swiss (λ ls. lawful) (lit≤ tt) p list room (paperFault f) (sym (h .answer)) in
     (e, h .lent ∙ l)
+
+-- too little room is told where nothing else is wrong, and no number of the list changes
+pub too-little-room : (p : Bytes) (list after : List ℕ) (n : ℕ) (k : Break) (r : Answer) → length list < 68 → verdict swiss p ≡ accepted n k → IsRead swiss p list r after → (r ≡ Refused NoRoom) × (after ≡ list)
+unfolding swiss
+too-little-room p list after n k r short v h =
+    let e = accepted-no-room swiss p list n k v short in
+    (one-answer r _ (h .answer ∙ ap (λ d. d .answer) e), h .lent ∙ ap (λ d. d .lent) e)
+
+-- and nowhere else
+pub room-alone : (p : Bytes) (list after : List ℕ) → IsRead swiss p list (Refused NoRoom) after → (length list < 68) × ((n : ℕ) × ((k : Break) × (verdict swiss p ≡ accepted n k)))
+unfolding swiss readAnswer
+room-alone p list after h = go (verdict swiss p) refl (ltb (length list) 68) refl (sym (h .answer))
+  where
+    go : (v : Verdict) → verdict swiss p ≡ v → (b : Bool) → ltb (length list) 68 ≡ b → readOnto swiss p list v (found b (under 15 0)) .answer ≡ refused (under 15 0) → (length list < 68) × ((n : ℕ) × ((k : Break) × (verdict swiss p ≡ accepted n k)))
+    go (refused q) v b e s = absurd (omega (arith, never-14-or-15 p (under 15 0) (v ∙ s)))
+    go (accepted n k) v true e s = (ltb-true _ _ e, (n, (k, v)))
+    go (accepted n k) v false e s = let z : _≡_ {A = ℕ} 0 1 = cc in absurd (omega arith)

@@ -1,35 +1,20 @@
 // Reads a payload: the verdict, then room, then the places of its lines.
-use judge::judge;
+use runs::fill;
 use sieve::Answer;
 use sieve::Fault;
 use swiss::limits::LIST_SIZE;
-ghost use mathlib.Core.List.{_++_};
-ghost use mathlib.Core.Path.{_≡_};
-ghost use Prim.Native.Nat.{_≤_};
-ghost use lib.ListN.{length, drop};
-ghost use Rattle.reader.specs.Reading.{IsRead};
-
-// Copies the places to the front of a list that has room for them; the numbers past them stay.
-fn fill(list: &mut [u16], places: &[u16])
-    requires { ⌜ (length (now places) ≡ 68) × (68 ≤ length (now list)) ⌝ }
-    ensures { λ _. ⌜ now (list .exit) ≡ now (places .entry) ++ drop 68 (now (list .entry)) ⌝ }
-{
-    let mut i = 0;
-    while i < places.len() {
-        list[i] = places[i];
-        i += 1;
-    }
-}
+use swiss_judge::judge;
+ghost use Rattle.sieve.specs.Reading.{IsRead};
+ghost use Rattle.swiss.specs.Swiss.{swiss};
 
 // The line count and the kind of break of an accepted payload, with start and byte length of each of 34 lines in the
-// front of the list; an absent line has the payload's length and 0. A refusal changes no number.
+// front of the list; an absent line has the payload's length and 0. A refusal changes no number: the walk's own list is
+// copied last.
 pub fn read(payload: &[u8], list: &mut [u16]) -> Answer
-    ensures { λ r. ⌜ IsRead (now (payload .entry)) (now (list .entry)) r (now (list .exit)) ⌝ }
+    ensures { λ r. ⌜ IsRead swiss (now (payload .entry)) (now (list .entry)) r (now (list .exit)) ⌝ }
 {
-    let judged = judge(payload);
-    let answer = judged.answer;
-    let places = judged.places;
-    match answer {
+    let mut places = [0; 68];
+    match judge(payload, &mut places) {
         Answer::Refused(f) => Answer::Refused(f),
         Answer::Accepted(n, k) => {
             if list.len() < LIST_SIZE {

@@ -2,7 +2,9 @@
 // has at most 4,096 bytes. Each is read three times, into lists of 68, 70 and 67 numbers, and a line is written for each
 // time: a refusal's number and line, or 0, the line count and the kind of break, 1 for LF and 2 for CR LF; then the
 // numbers of the list. Before it is lent, each number is a mark, 60000 and its index. A list of fewer than 68 numbers
-// that all are still marks is written as `same`. A fourth line has the account that a viewer of the payload hands out.
+// that all are still marks is written as `same`. A fourth line has what a viewer of the payload hands out, opened anew
+// and moved on 0, 1, 2, .. times: `+` where it is not done and `.` where it is, the length of the part that it hands
+// out, a colon, and the part. It ends one move after the viewer is done.
 use libc::STDIN_FILENO;
 use libc::STDOUT_FILENO;
 use sieve::Answer;
@@ -85,6 +87,37 @@ fn run_into(payload: &[u8], list: &mut [u16])
     io::write_all(STDOUT_FILENO, b"\n");
 }
 
+fn write_part(part: &[u8]) {
+    io::print_decimal(STDOUT_FILENO, part.len() as u64);
+    io::write_all(STDOUT_FILENO, b":");
+    io::write_all(STDOUT_FILENO, part);
+}
+
+// Whether a viewer that is moved on so many times is not done; what it hands out is written.
+fn write_after(payload: &[u8], moves: usize) -> bool {
+    let done = viewer::done_after(payload, moves);
+    if done {
+        io::write_all(STDOUT_FILENO, b".");
+    } else {
+        io::write_all(STDOUT_FILENO, b"+");
+    }
+    write_part(viewer::line_after(payload, moves));
+    !done
+}
+
+// More moves than a bill has lines.
+const MOST_MOVES: usize = 64;
+
+// Writes what a viewer hands out until it is done, and once more after that.
+fn write_view(payload: &[u8]) {
+    let mut moves = 0;
+    while moves < MOST_MOVES && write_after(payload, moves) {
+        moves += 1;
+    }
+    write_after(payload, moves + 1);
+    io::write_all(STDOUT_FILENO, b"\n");
+}
+
 fn run(payload: &[u8]) {
     let mut exact = [0u16; 68];
     run_into(payload, &mut exact);
@@ -92,8 +125,7 @@ fn run(payload: &[u8]) {
     run_into(payload, &mut ample);
     let mut scant = [0u16; 67];
     run_into(payload, &mut scant);
-    io::write_all(STDOUT_FILENO, viewer::account(payload));
-    io::write_all(STDOUT_FILENO, b"\n");
+    write_view(payload);
 }
 
 fn wide(x: u8) -> usize

@@ -12,23 +12,23 @@ use Rattle.sieve.specs.Bytes.{Bytes}
 use Rattle.report.specs.Spoken.{digitByte, decimalIn, decimal}
 
 -- the front of a line, and a text behind it
-pub front : (n : ℕ) (d l rest : Bytes) → n ≤ length d → take (n + length l) (take n d ++ (l ++ rest)) ≡ take n d ++ l
-front n d l rest h =
+pub added-in-front : (n : ℕ) (d l rest : Bytes) → n ≤ length d → take (n + length l) (take n d ++ (l ++ rest)) ≡ take n d ++ l
+added-in-front n d l rest h =
     let e : length (take n d ++ l) ≡ n + length l = omega (arith, length-append (take n d) l, length-take-le n d h) in
     rw (← append-assoc (take n d) l rest, ← e) (take-append-seam (take n d ++ l) rest)
 
 -- the first `at` bytes of a line are this text
 pub record Said (t line : Bytes) (at : ℕ) : Type 0 where
-  pub length : at ≡ length t
+  pub size : at ≡ length t
   pub text : take at line ≡ t
 
 -- what is laid in the front is said first
 pub begun : {line : Bytes} {r : ℕ} (u : Bytes) → (r ≡ length u) × (take r line ≡ u) → Said u line r
-begun u (r, e) = record { length = r; text = e }
+begun u (r, e) = record { size = r; text = e }
 
 -- what is laid behind them is said after it
 pub more : {t line line′ : Bytes} {at r : ℕ} (u : Bytes) → Said t line at → (r ≡ at + length u) × (take r line′ ≡ take at line ++ u) → Said (t ++ u) line′ r
-more {t} u s (r, e) = record { length = omega (arith, s .length, length-append t u); text = rw (← s .text) e }
+more {t} u s (r, e) = record { size = omega (arith, s .size, length-append t u); text = rw (← s .text) e }
 
 module _ (n : ℕ) where
   pub one-digit : n < 10 → decimal n ≡ digitByte (n % 10) ∷ []

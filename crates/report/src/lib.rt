@@ -1,11 +1,11 @@
 // The line that the program writes of a payload: what the reader answers.
-use judge::judge;
 use runs::lay;
 use sieve::Answer;
 use sieve::Break;
 use sieve::Fault;
 use sieve::line_of;
 use sieve::number_of;
+use swiss_judge::verdict;
 ghost use mathlib.Core.List.{_++_};
 ghost use mathlib.Core.Path.{_≡_};
 ghost use Prim.Native.Nat.{_+_, _≤_, _<_};
@@ -13,7 +13,7 @@ ghost use lib.ListN.{length, take};
 ghost use Rattle.sieve.specs.Paper.{paper, paperFault};
 ghost use Rattle.sieve.specs.Verdict.{accepted, refused, verdict};
 ghost use Rattle.swiss.specs.Swiss.{swiss};
-ghost use Rattle.runs.specs.Laid.{room, laid};
+ghost use Rattle.runs.specs.Laid.{fitting, overFitting};
 ghost use Rattle.report.specs.Spoken.{digitByte, decimal, spoken, Short};
 
 // Lays a text behind the first `at` bytes of a line, and answers where it ends.
@@ -89,12 +89,11 @@ fn compose(line: &mut [u8], answer: Answer) -> usize
 // Lays the line in the front of `dest`, and answers how many bytes it has; none where they do not fit, and `dest` stays
 // as it is. That they lie in `dest` follows, and is said so that a caller can take them out of it.
 pub fn report(payload: &[u8], dest: &mut [u8]) -> usize
-    ensures { λ r. ⌜ r ≡ room (now (dest .entry)) (spoken (verdict swiss (now (payload .entry)))) ⌝ }
-    ensures { λ _. ⌜ now (dest .exit) ≡ laid (now (dest .entry)) (spoken (verdict swiss (now (payload .entry)))) ⌝ }
+    ensures { λ r. ⌜ r ≡ fitting (now (dest .entry)) (spoken (verdict swiss (now (payload .entry)))) ⌝ }
+    ensures { λ _. ⌜ now (dest .exit) ≡ overFitting (now (dest .entry)) (spoken (verdict swiss (now (payload .entry)))) ⌝ }
     ensures { λ r. ⌜ r ≤ length (now (dest .exit)) ⌝ }
 {
-    let judged = judge(payload);
-    let answer = judged.answer;
+    let answer = verdict(payload);
     let mut line = [0u8; 32];
     let n = compose(&mut line, answer);
     lay(dest, &line[0..n])

@@ -1,7 +1,7 @@
 -- What loops that go byte by byte lean on: what is left from a place on, and sameness. Assumes nothing.
 use Prim.Native.Nat.{ℕ, suc, _+_, _≤_, _<_}
 use native.Mathlib.Numerals.{add-one}
-use mathlib.Core.Bool.{Bool, true, false, cond, _&&_, and-false}
+use mathlib.Core.Bool.{true, false, _&&_, and-false}
 use mathlib.Core.List.{[], _∷_}
 use mathlib.Core.Logic.{_≢_}
 use mathlib.Core.Path.{_≡_, refl, ap}
@@ -13,11 +13,6 @@ use Rattle.sieve.specs.Bytes.{Bytes, same}
 -- the byte at the place, and what is left after it
 pub next : (s : Bytes) (i : ℕ) → i < length s → drop i s ≡ getD s i 0 ∷ drop (i + 1) s
 next s i h = rw (add-one, drop-cons s i 0)
-
--- one of two is within what both are within
-pub at-most : (n : ℕ) (b : Bool) (x y : ℕ) → x ≤ n → y ≤ n → cond b x y ≤ n
-at-most n true x y h k = h
-at-most n false x y h k = k
 
 -- two runs of bytes are the same where the next bytes are, and those after them; runs of other lengths never are
 module _ (a b : Bytes) (i : ℕ) where

@@ -21,3 +21,6 @@ one-every κs a x y v w h k = (h ∙ sym k, refl)
 -- the destination at exit too
 pub one-lay : OneAnswer fn.lay.ended fn.lay.Reads.Learnt
 one-lay κs a x y v w h k = (h .0 ∙ sym (k .0), ap (λ d. (d, w .1)) (h .1 ∙ sym (k .1)))
+
+pub one-fill : OneAnswer fn.fill.ended fn.fill.Reads.Learnt
+one-fill κs a x y v w h k = (h .0 ∙ sym (k .0), ap (λ d. (d, w .1)) (h .1 ∙ sym (k .1)))

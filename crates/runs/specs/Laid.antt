@@ -1,15 +1,15 @@
--- Bytes laid in the front of a destination. Assumes nothing.
+-- A run laid over the front of a destination, where it fits. Assumes nothing.
 use Prim.Native.Nat.{ℕ}
 use mathlib.Core.Bool.{cond}
-use mathlib.Core.List.{_++_}
+use mathlib.Core.List.{List}
 use lib.Dec.{leb}
-use lib.ListN.{length, drop}
-use Rattle.sieve.specs.Bytes.{Bytes}
+use lib.ListN.{length}
+use Rattle.sieve.specs.Bytes.{over}
 
--- how many bytes are laid in front of d: none where they do not fit
-unfoldable pub room : Bytes → Bytes → ℕ
-room d l = cond (leb (length l) (length d)) (length l) 0
+-- how many of w are laid over the front of d: none where they do not fit
+unfoldable pub fitting : List ℕ → List ℕ → ℕ
+fitting d w = cond (leb (length w) (length d)) (length w) 0
 
--- d with l laid in its front, where it fits
-unfoldable pub laid : Bytes → Bytes → Bytes
-laid d l = cond (leb (length l) (length d)) (l ++ drop (length l) d) d
+-- d with w laid over its front, where it fits
+unfoldable pub overFitting : List ℕ → List ℕ → List ℕ
+overFitting d w = cond (leb (length w) (length d)) (over d w) d

@@ -1,12 +1,13 @@
 // Runs of bytes: counting, comparing and copying them.
+use bytes::copy;
 ghost use mathlib.Core.Path.{_≡_};
 ghost use mathlib.Core.Bool.{cond};
 ghost use Prim.Native.Nat.{_+_};
 ghost use lib.Dec.{ltb};
 ghost use Rattle.sieve.specs.Bytes.{within, same, every};
 ghost use Rattle.sieve.specs.Characters.{characters};
-ghost use Rattle.runs.specs.Kinds.{ofKind};
-ghost use Rattle.runs.specs.Laid.{room, laid};
+ghost use Rattle.runs.specs.CharacterKinds.{ofKind};
+ghost use Rattle.runs.specs.Laid.{fitting, overFitting};
 
 // How many characters a byte counts for: none where it is 80 to BF, which go on with a character that has begun.
 fn character_count(x: u8) -> usize
@@ -108,15 +109,26 @@ pub fn every(kind: Kind, s: &[u8]) -> bool
 
 // Copies bytes to the front of `dest`, and answers how many; none where they do not fit, and `dest` stays as it is.
 pub fn lay(dest: &mut [u8], bytes: &[u8]) -> usize
-    ensures { λ r. ⌜ r ≡ room (now (dest .entry)) (now (bytes .entry)) ⌝ }
-    ensures { λ _. ⌜ now (dest .exit) ≡ laid (now (dest .entry)) (now (bytes .entry)) ⌝ }
+    ensures { λ r. ⌜ r ≡ fitting (now (dest .entry)) (now (bytes .entry)) ⌝ }
+    ensures { λ _. ⌜ now (dest .exit) ≡ overFitting (now (dest .entry)) (now (bytes .entry)) ⌝ }
 {
     if dest.len() < bytes.len() {
         return 0;
     }
+    copy(bytes, dest)
+}
+
+// The same of numbers: copies them to the front of a list.
+pub fn fill(list: &mut [u16], numbers: &[u16]) -> usize
+    ensures { λ r. ⌜ r ≡ fitting (now (list .entry)) (now (numbers .entry)) ⌝ }
+    ensures { λ _. ⌜ now (list .exit) ≡ overFitting (now (list .entry)) (now (numbers .entry)) ⌝ }
+{
+    if list.len() < numbers.len() {
+        return 0;
+    }
     let mut i = 0;
-    while i < bytes.len() {
-        dest[i] = bytes[i];
+    while i < numbers.len() {
+        list[i] = numbers[i];
         i += 1;
     }
     i

@@ -1,17 +1,17 @@
 -- The verdict of every layout with lawful characters accepts exactly its bills. Assumes nothing.
 use Prim.Native.Nat.{ℕ, _≤_}
 use native.Mathlib.Omega.{arith}
-use mathlib.Core.Bool.{true, false, not, and-eq-true-iff}
+use mathlib.Core.Bool.{false, not}
 use mathlib.Core.List.{List, [], _∷_, _++_, map, List·Memᴰ, List·Memᴰ·head, List·Memᴰ·tail, List·Memᴰ·not-nil, List·Memᴰ·cases-cons}
 use mathlib.Core.Logic.{_⊎_, inl, inr}
 use mathlib.Core.Option.{none, map-eq-none-iff}
 use mathlib.Core.Path.{_≡_, refl, sym, _∙_, ap}
-use lib.Dec.{eqb, leb, eqb·suc-zero}
+use lib.Dec.{eqb, eqb·suc-zero}
 use lib.ListN.{length}
-use borrow.Author.Tests.{ltb-false, leb-true, le-ltb, le-leb, not-false}
+use borrow.Author.Tests.{ltb-false, le-ltb, le-leb, not-false}
 use Rattle.sieve.specs.declared.Break.{Break}
 use Rattle.sieve.specs.declared.Break.the-variants.{Lf, CrLf}
-use Rattle.sieve.specs.Bytes.{Bytes, within}
+use Rattle.sieve.specs.Bytes.{Bytes}
 use Rattle.sieve.specs.Lines.{Next, gluedAfter, Bill, cut, breakBytes, afterBreaks, joined, written, linesOf, breaksOf, kind, sameBreak, billOf}
 use Rattle.sieve.specs.Rules.{Layout}
 use Rattle.sieve.specs.Verdict.{mixedBreaks, accepted, findings, first, verdict}
@@ -21,6 +21,7 @@ use Rattle.sieve.specs.Demand.{Is, AcceptsExactly}
 use Rattle.sieve.proofs.Likeness.{like, like-itself}
 use Rattle.sieve.proofs.Cutting.{Each, glued-cut, nexts, cut-joined}
 use Rattle.sieve.proofs.Walking.{no-bad-place, texts, text-clean}
+use Rattle.sieve.proofs.Bounds.{is-within}
 use Rattle.sieve.proofs.Findings.{found-none, settled-accepts, verdict-is, Clear, clear, clear-first, all-unbroken, none-broken, none-such, such-none}
 
 -- where every break is like k, the lines with k between them are the bytes that were cut
@@ -66,9 +67,6 @@ not-empty k (x ∷ l) s = rw eqb·suc-zero
 not-empty Lf [] s = rw eqb·suc-zero
 not-empty CrLf [] s = rw eqb·suc-zero
 
-pub within-both : (lo hi n : ℕ) → within lo hi n ≡ true → (lo ≤ n) × (n ≤ hi)
-within-both lo hi n h = let (a, b) = and-eq-true-iff (leb lo n) _ .0 h in (leb-true _ _ a, leb-true _ _ b)
-
 module _ (L : Layout) (laws : (ls : List Bytes) → Lawful (L .width ls)) where
   sound : (p : Bytes) (n : ℕ) (k : Break) → verdict L p ≡ accepted n k → (b : Bill) × Is L p n k b
   unfolding billOf
@@ -76,7 +74,7 @@ module _ (L : Layout) (laws : (ls : List Bytes) → Lawful (L .width ls)) where
       let ls = linesOf (cut p) in
       let (nothing, count, break) = settled-accepts (billOf p) (first (findings L p)) (sym (verdict-is L p) ∙ h) in
       let all = clear L p nothing in
-      let (least, most) = within-both (L .fewest-lines) (L .most-lines) (length ls) (not-false _ (found-none _ _ (all .counted))) in
+      let (least, most) = is-within (L .fewest-lines) (L .most-lines) (length ls) (not-false _ (found-none _ _ (all .counted))) in
       let same = unmixed-written p (all .unmixed) in (
         billOf p,
         record {

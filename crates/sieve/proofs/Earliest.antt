@@ -35,8 +35,8 @@ outside lo hi n = go (leb lo n) (leb n hi) refl refl
     go true false e f h = inr (leb-false n hi f)
     go true true e f h = absurd (false≢true h)
 
-front : (a s p : Bytes) (n : ℕ) → a ++ s ≡ p → length a ≡ n → take n p ≡ a
-front a s p n e h = ap (take n) (sym e) ∙ take-at a s n h
+run-in-front : (a s p : Bytes) (n : ℕ) → a ++ s ≡ p → length a ≡ n → take n p ≡ a
+run-in-front a s p n e h = ap (take n) (sym e) ∙ take-at a s n h
 
 five-more : (j : ℕ) → 5 + j ≡ suc (suc (suc (suc (suc j))))
 five-more j = omega arith
@@ -72,7 +72,7 @@ module _ (L : Layout) (p : Bytes) where
       let whole : s .run ++ s .bad ≡ p = rw (no-length (s .skipped) (s .skips)) at (s .whole) in
       let place : length (s .run) ≡ at = omega (arith, s .place, s .skips) in
       let says : underAt 3 (1 + lineFeeds (s .run)) (length (s .run)) ≡ r =
-      ap (λ (t : Bytes). underAt 3 (1 + lineFeeds t) (length (s .run))) (sym (front (s .run) (s .bad) p at whole place)) ∙ ap (underAt 3 (1 + lineFeeds (take at p))) place ∙ f in
+      ap (λ (t : Bytes). underAt 3 (1 + lineFeeds t) (length (s .run))) (sym (run-in-front (s .run) (s .bad) p at whole place)) ∙ ap (underAt 3 (1 + lineFeeds (take at p))) place ∙ f in
       subst (Breaks L p 2) says (bad-character (s .run) (s .bad) whole (s .passed) (s .more) (s .begins-none))
 
   break-found : (r : Refusal) → mixedBreaks ks ≡ some r → Breaks L p 3 r
@@ -102,7 +102,7 @@ module _ (L : Layout) (p : Bytes) where
   character-broken a s e q m b =
       let w = L .width ls in
       let place : walk w 0 p 0 ≡ some (length a) = ap (λ (t : Bytes). walk w 0 t 0) (sym e) ∙ walk-passed q 0 ∙ walk-stops w s (0 + length a) m b ∙ ap some (zero-add (length a)) in
-      rw (place, front a s p (length a) e refl)
+      rw (place, run-in-front a s p (length a) e refl)
 
   break-broken : (is js : List Break) (j : Break) → ks ≡ is ++ (j ∷ js) → ((k : Break) → List·Memᴰ k is → k ≡ kind ks) → j ≢ kind ks → mixedBreaks ks ≡ some (under 4 (suc (length is)))
   break-broken is js j e h u =

@@ -1,5 +1,5 @@
 -- What the sieve finds: nothing exactly where no rule is broken; else the first. Assumes nothing.
-use Prim.Native.Nat.{ℕ, zero, suc, _+_, _≤_, zero-le, suc-le-suc}
+use Prim.Native.Nat.{ℕ, zero, suc, _+_, _≤_, _<_, zero-le, suc-le-suc}
 use native.Mathlib.Nat.{add-zero}
 use native.Mathlib.Omega.{arith}
 use mathlib.Core.Bool.{Bool, true, false}
@@ -7,7 +7,7 @@ use mathlib.Core.List.{List, [], _∷_, _++_, map, List·Memᴰ, List·Memᴰ·h
 use mathlib.Core.Logic.{_⊎_, inl, inr}
 use mathlib.Core.Option.{Option, some, none, Option·none-ne-some}
 use mathlib.Core.Path.{_≡_, refl, sym, _∙_, ap}
-use lib.ListN.{length, getD, drop}
+use lib.ListN.{length, getD, drop, length-append}
 use Rattle.sieve.specs.declared.Break.{Break}
 use Rattle.sieve.specs.Bytes.{Bytes, firstSuch}
 use Rattle.sieve.specs.Lines.{Bill, cut, linesOf, breaksOf, billOf}
@@ -156,6 +156,12 @@ such-at {A} f i (x ∷ xs) n h = go (f x) refl (such-at f (suc i) xs n)
         either : (y : A) {b : List A} → ((z : A) → List·Memᴰ z b → f z ≡ false) → (y ≡ x) ⊎ List·Memᴰ y b → f y ≡ false
         either y k (inl s) = rw s e
         either y k (inr m) = k y m
+
+-- it lies in the list
+pub such-within : {A : Type 0} (f : A → Bool) (i : ℕ) (xs : List A) (n : ℕ) → firstSuch f i xs ≡ some n → n < i + length xs
+such-within f i xs n h =
+    let s = such-at f i xs n h in
+    omega (arith, s .place, ap length (s .whole), length-append (s .before) (s .such ∷ s .after))
 
 pub at-such : {A : Type 0} (f : A → Bool) (i : ℕ) (ks : List A) (x : A) (js : List A) → ((k : A) → List·Memᴰ k ks → f k ≡ false) → f x ≡ true → firstSuch f i (ks ++ (x ∷ js)) ≡ some (i + length ks)
 unfolding firstSuch

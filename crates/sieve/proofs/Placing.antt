@@ -1,10 +1,10 @@
 -- The list of places gives back the lines of the bill that it was made for. Assumes nothing.
-use Prim.Native.Nat.{ℕ, zero, suc, _+_, _-_, _*_, _≤_, zero-le}
+use Prim.Native.Nat.{ℕ, zero, suc, _+_, _-_, _*_, _≤_, _<_, zero-le}
 use native.Mathlib.Nat.{sub-zero, le-of-suc-le-suc, not-suc-le-zero}
 use native.Mathlib.Omega.{arith}
 use mathlib.Core.List.{List, [], _∷_, _++_, map, flatten, append-assoc}
 use mathlib.Core.Path.{_≡_, refl, sym, _∙_, ap, ap₂}
-use lib.ListN.{length, replicate, drop, length-append}
+use lib.ListN.{length, getD, replicate, drop, length-append}
 use lib.Seq.{take-append-seam, drop-at}
 use Rattle.sieve.specs.declared.Break.{Break}
 use Rattle.sieve.specs.Bytes.{Bytes}
@@ -21,6 +21,24 @@ unfolding entries
 entries-length zero end ls = refl
 entries-length (suc n) end [] = omega (arith, entries-length n end [])
 entries-length (suc n) end (l ∷ ls) = omega (arith, entries-length n end ls)
+
+-- the two numbers of an entry
+pub entry-at : (m i end : ℕ) (ls : List Placed) → i < m → let l = getD ls i (record { start = end; text = [] }) in
+    (getD (entries m end ls) (2 * i) 0 ≡ l .start) × (getD (entries m end ls) (2 * i + 1) 0 ≡ length (l .text))
+unfolding entries
+entry-at zero i end ls h = absurd (not-suc-le-zero h)
+entry-at (suc m) zero end [] h = (refl, refl)
+entry-at (suc m) zero end (l ∷ ls) h = (refl, refl)
+entry-at (suc m) (suc i) end [] h =
+    let twice : 2 * suc i ≡ suc (suc (2 * i)) = omega arith in
+    let more : suc (suc (2 * i)) + 1 ≡ suc (suc (2 * i + 1)) = omega arith in
+    let (a, b) = entry-at m i end [] (le-of-suc-le-suc h) in
+    (rw twice a, rw (twice, more) b)
+entry-at (suc m) (suc i) end (l ∷ ls) h =
+    let twice : 2 * suc i ≡ suc (suc (2 * i)) = omega arith in
+    let more : suc (suc (2 * i)) + 1 ≡ suc (suc (2 * i + 1)) = omega arith in
+    let (a, b) = entry-at m i end ls (le-of-suc-le-suc h) in
+    (rw twice a, rw (twice, more) b)
 
 pub spans-of : (n end : ℕ) (ls : List Placed) → length ls ≤ n → spans (length ls) (entries n end ls) ≡ map span ls
 unfolding spans entries
@@ -46,19 +64,19 @@ length-placed at k (l ∷ ls) = ap suc (length-placed _ k ls)
 
 -- the part at a line's place is the line, in bytes that hold the lines after some others
 
-here : (before l after : Bytes) (at : ℕ) → length before ≡ at → part (before ++ (l ++ after)) (record { start = at; bytes = length l }) ≡ l
-here before l after at h = rw (drop-at before (l ++ after) at h) (take-append-seam l after)
+pub part-here : (before l after : Bytes) (at : ℕ) → length before ≡ at → part (before ++ (l ++ after)) (record { start = at; bytes = length l }) ≡ l
+part-here before l after at h = rw (drop-at before (l ++ after) at h) (take-append-seam l after)
 
 cut-out : (k : Break) (ls : List Bytes) (before l : Bytes) (at : ℕ) → length before ≡ at → map (part (before ++ (l ++ afterBreaks k ls))) (map span (placed at k (l ∷ ls))) ≡ l ∷ ls
 unfolding placed
-cut-out k [] before l at h = ap (λ (t : Bytes). t ∷ []) (here before l [] at h)
+cut-out k [] before l at h = ap (λ (t : Bytes). t ∷ []) (part-here before l [] at h)
 cut-out k (m ∷ ls) before l at h =
     let rest = m ++ afterBreaks k ls in
     let next = at + length l + length (breakBytes k) in
     let longer = before ++ (l ++ breakBytes k) in
     let same : before ++ (l ++ (breakBytes k ++ rest)) ≡ longer ++ rest = simp append-assoc in
     let others = ap (λ (t : Bytes). map (part t) (map span (placed next k (m ∷ ls)))) same ∙ cut-out k ls longer m next (omega (arith, length-append before (l ++ breakBytes k), length-append l (breakBytes k))) in
-    ap₂ (λ (t : Bytes) (ts : List Bytes). t ∷ ts) (here before l (breakBytes k ++ rest) at h) others
+    ap₂ (λ (t : Bytes) (ts : List Bytes). t ∷ ts) (part-here before l (breakBytes k ++ rest) at h) others
 
 all-cut-out : (k : Break) (ls : List Bytes) → map (part (joined k ls)) (map span (placed 0 k ls)) ≡ ls
 unfolding placed

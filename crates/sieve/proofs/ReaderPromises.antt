@@ -39,7 +39,7 @@ accepted-listed L p list n k h room = rw (h, le-ltb _ _ room, readAnswer)
 
 module _ (L : Layout) (p : Bytes) (list : List ℕ) (room : listSize L ≤ length list) where
   -- given room, the answer is the verdict
-  answer-is-verdict : readAnswer L p list .answer ≡ verdict L p
+  pub answer-is-verdict : readAnswer L p list .answer ≡ verdict L p
   answer-is-verdict = go (verdict L p) refl
     where
       go : (v : Verdict) → verdict L p ≡ v → readAnswer L p list .answer ≡ verdict L p

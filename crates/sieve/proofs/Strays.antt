@@ -1,10 +1,10 @@
 -- Lines hold no CR and no LF exactly where the writer finds no stray break; and so it is where they join to the same bytes as lines that hold none. Assumes nothing.
-use Prim.Native.Nat.{ℕ, suc, _+_, _*_}
+use Prim.Native.Nat.{ℕ, suc, _+_, _*_, _<_}
 use native.Mathlib.Omega.{arith}
 use mathlib.Core.Bool.{Bool, true, false, true≢false, cond}
 use mathlib.Core.List.{List, [], _∷_, _++_, List·Memᴰ, List·Memᴰ·head, List·Memᴰ·tail, List·Memᴰ·not-nil, List·Memᴰ·cases-cons}
 use mathlib.Core.Logic.{_⊎_, inl, inr}
-use mathlib.Core.Option.{Option, some, none, Option·none-ne-some}
+use mathlib.Core.Option.{Option, some, none, Option·getD, Option·none-ne-some, Option·some-injective}
 use mathlib.Core.Path.{_≡_, refl, sym, _∙_, ap}
 use lib.ListN.{length}
 use borrow.Author.Tests.{ne-eqb}
@@ -13,7 +13,8 @@ use Rattle.sieve.specs.declared.Break.the-variants.{Lf, CrLf}
 use Rattle.sieve.specs.Bytes.{Bytes, firstSuch}
 use Rattle.sieve.specs.Lines.{breakBytes, ofBreak, afterBreaks, joined}
 use Rattle.sieve.specs.Lawful.{no-more, one-more, Clean}
-use Rattle.sieve.specs.Places.{placed}
+use Rattle.sieve.specs.Places.{Placed, placed}
+use Rattle.sieve.specs.Verdict.{Refusal, underAt}
 use Rattle.sieve.specs.Writing.{strayBreak}
 use Rattle.sieve.proofs.Cutting.{Each}
 use Rattle.sieve.proofs.Walking.{each}
@@ -98,3 +99,19 @@ same-bytes-clean k (l ∷ ls) (m ∷ ms) n e h =
     let bytes : length (breakBytes k) * length ls ≡ length (breakBytes k) * length ms = rw same in
     strays-clean (l ∷ ls)
     (omega (arith, bytes, ap breakBytesIn e, in-both l (afterBreaks k ls), in-both m (afterBreaks k ms), in-after k ls, in-after k ms, clean-strays (m ∷ ms) h))
+
+-- a stray break is refused under 3, with the line that it is in and the byte's place
+pub record StrayFound (i : ℕ) (ls : List Placed) (r : Refusal) : Type 0 where
+  pub line : r .line < i + length ls
+  pub is : r ≡ underAt 3 (r .line) (Option·getD (r .place) 0)
+
+pub stray-found : (i : ℕ) (ls : List Placed) (r : Refusal) → strayBreak i ls ≡ some r → StrayFound i ls r
+unfolding strayBreak
+stray-found i [] r h = absurd (Option·none-ne-some r h)
+stray-found i (l ∷ ls) r h = go (firstSuch ofBreak (l .start) (l .text)) refl (stray-found (suc i) ls r)
+  where
+    go : (o : Option ℕ) → firstSuch ofBreak (l .start) (l .text) ≡ o → (strayBreak (suc i) ls ≡ some r → StrayFound (suc i) ls r) → StrayFound i (l ∷ ls) r
+    go none e ih = let s = ih (rw (e, strayBreak) at h) in record { line = omega (arith, s .line); is = s .is }
+    go (some at) e ih =
+        let s : underAt 3 i at ≡ r = Option·some-injective _ _ (rw (e, strayBreak) at h) in
+        rw (← s) (record { line = omega arith; is = refl })

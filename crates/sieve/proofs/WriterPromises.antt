@@ -1,24 +1,28 @@
 -- What the writer's answer promises, over any layout. Assumes nothing.
-use Prim.Native.Nat.{ℕ, zero, suc, _+_, _≤_}
+use Prim.Native.Nat.{ℕ, zero, suc, _+_, _≤_, _<_}
 use native.Mathlib.Omega.{arith}
+use mathlib.Core.Bool.{true}
 use mathlib.Core.List.{List, [], _∷_, _++_, map}
 use mathlib.Core.Option.{Option, some, none}
 use mathlib.Core.Path.{_≡_, refl, sym, _∙_, ap, subst}
 use lib.ListN.{length, drop, length-append}
-use borrow.Author.Tests.{le-ltb, le-leb, not-false}
+use borrow.Author.Tests.{le-ltb, lt-ltb, le-leb, not-false}
 use Rattle.sieve.specs.declared.Break.{Break}
-use Rattle.sieve.specs.Bytes.{Bytes, firstSuch}
+use Rattle.sieve.specs.Bytes.{Bytes, within, firstSuch}
 use Rattle.sieve.specs.Lines.{Bill, breakBytes, afterBreaks, joined, written, billOf}
 use Rattle.sieve.specs.Rules.{Layout}
-use Rattle.sieve.specs.Verdict.{Refusal, accepted, findings, first, verdict}
+use Rattle.sieve.specs.Verdict.{Refusal, under, accepted, findings, first, verdict}
 use Rattle.sieve.specs.Lawful.{Lawful}
 use Rattle.sieve.specs.Keeps.{Keeps}
 use Rattle.sieve.specs.Demand.{Is}
 use Rattle.sieve.specs.Places.{placed, placesOf, listSize}
 use Rattle.sieve.specs.Paper.{laid, not-laid}
+use Rattle.sieve.specs.Reading.{noRoom}
 use Rattle.sieve.specs.Writing.{outside, Span, spans, part, handed, strayBreak, writeFindings, laidOnto, writeAnswer}
-use Rattle.sieve.proofs.Accepts.{within-both, clean-read-back, read-back}
-use Rattle.sieve.proofs.Findings.{found-none, each-none, first-nil, none-first, settled-accepts, verdict-is}
+use Rattle.sieve.proofs.Accepts.{clean-read-back, read-back}
+use Rattle.sieve.proofs.Bounds.{is-within}
+use Rattle.sieve.proofs.Firsts.{passed, alone}
+use Rattle.sieve.proofs.Findings.{found-none, each-none, settled-accepts, verdict-is}
 use Rattle.sieve.proofs.Placing.{span, spans-of, length-placed, list-length, places-cut-out}
 use Rattle.sieve.proofs.ReaderPromises.{spans-front}
 use Rattle.sieve.proofs.Strays.{unstray-clean, clean-unstray, same-bytes-clean}
@@ -58,17 +62,23 @@ module _ (L : Layout) (text : Bytes) (list : List ℕ) (count : ℕ) (k : Break)
   refused-unchanged r h = unlaid-facts (joined k (handed text list count)) dest (first (writeFindings L text list count k (length dest))) h
 
   module _ (laws : (ls : List Bytes) → Lawful (L .width ls)) (two : 2 ≤ L .fewest-lines) where
-    -- what is laid is accepted, and read back as the same lines and break: the handed bill keeps every rule
+    -- lines of a right count that hold no break, and in which nothing is found when they are joined, are read back as the same lines and break: the handed bill keeps every rule
+    pub read-as-handed : within (L .fewest-lines) (L .most-lines) count ≡ true → strayBreak 1 (placed 0 k (handed text list count)) ≡ none → first (findings L (written b)) ≡ none
+        → (verdict L (written b) ≡ accepted count k) × (billOf (written b) ≡ b) × Keeps L b
+    read-as-handed good unstray nothing =
+        let (enough, _) = is-within (L .fewest-lines) (L .most-lines) count good in
+        let size = handed-length text list count in
+        let back = clean-read-back b (omega (arith, size)) (unstray-clean k (b .lines) 1 0 unstray) in
+        let v : verdict L (written b) ≡ accepted count k = verdict-is L (written b) ∙ rw (nothing, back, size) in
+        (v, back, accepted-keeps L laws two b count k back v)
+
+    -- so it is with what is laid
     pub laid-accepted : (n : ℕ) → writeAnswer L text list count k dest .answer ≡ laid n → (verdict L (written b) ≡ accepted count k) × (billOf (written b) ≡ b) × Keeps L b
     unfolding writeAnswer writeFindings written
     laid-accepted n h =
         let (o, _, _) = laid-facts (written b) dest (first (writeFindings L text list count k (length dest))) h in
         let none-at = each-none (writeFindings L text list count k (length dest)) o in
-        let (enough, _) = within-both (L .fewest-lines) (L .most-lines) count (not-false _ (found-none _ _ (none-at 1))) in
-        let size = handed-length text list count in
-        let back = clean-read-back b (omega (arith, size)) (unstray-clean k (b .lines) 1 0 (none-at 3)) in
-        let v : verdict L (written b) ≡ accepted count k = verdict-is L (written b) ∙ rw (none-at 4, back, size) in
-        (v, back, accepted-keeps L laws two b count k back v)
+        read-as-handed (not-false _ (found-none _ _ (none-at 1))) (none-at 3) (none-at 4)
 
 -- stray breaks and the verdict on the joined lines
 module _ (L : Layout) (k : Break) (ls : List Bytes) where
@@ -104,21 +114,32 @@ inside-written k (l ∷ m ∷ ls) at i n h =
 
 module _ (L : Layout) (laws : (ls : List Bytes) → Lawful (L .width ls)) (two : 2 ≤ L .fewest-lines) where
   module _ (b : Bill) (text : Bytes) (list : List ℕ) (dest : Bytes) (keeps : Keeps L b) (size : listSize L ≤ length list) (lines : handed text list (length (b .lines)) ≡ b .lines)
-      (inside : NoneOutside (length text) (spans (length (b .lines)) list)) (room : length (written b) ≤ length dest) where
-    nothing-found : first (writeFindings L text list (length (b .lines)) (b .break) (length dest)) ≡ none
+      (inside : NoneOutside (length text) (spans (length (b .lines)) list)) where
+    -- of a bill that keeps every rule, whose lines lie anywhere in a text by any places, nothing is found but too little room
+    room-alone : first (writeFindings L text list (length (b .lines)) (b .break) (length dest)) ≡ noRoom (length dest) (length (written b))
     unfolding writeFindings written
-    nothing-found =
-        none-first _ _ (rw (le-ltb _ _ size))
-        (none-first _ _ (rw (le-leb _ _ (keeps .enough), le-leb _ _ (keeps .not-too-many)))
-        (none-first _ _ (rw inside)
-        (none-first _ _ (rw lines (clean-unstray (b .break) (b .lines) 1 0 (keeps-clean L laws b keeps)))
-        (none-first _ _ (rw lines (settled-accepts (billOf (written b)) (first (findings L (written b))) (sym (verdict-is L (written b)) ∙ demand-three L laws two .accepts .complete b keeps) .0))
-        (none-first _ _ (rw (lines, le-ltb _ _ room)) first-nil)))))
+    room-alone =
+        passed _
+        (passed _
+        (passed _
+        (passed _
+        (passed _ refl (rw (le-ltb _ _ size)))
+        (rw (le-leb _ _ (keeps .enough), le-leb _ _ (keeps .not-too-many))))
+        (rw inside))
+        (rw lines (clean-unstray (b .break) (b .lines) 1 0 (keeps-clean L laws b keeps))))
+        (rw lines (settled-accepts (billOf (written b)) (first (findings L (written b))) (sym (verdict-is L (written b)) ∙ demand-three L laws two .accepts .complete b keeps) .0))
+        ∙ rw lines (alone (noRoom (length dest) (length (written b))))
 
-    -- a bill that keeps every rule, whose lines lie anywhere in a text by any places, is written, given room
-    pub bill-laid : writeAnswer L text list (length (b .lines)) (b .break) dest ≡ record { answer = laid (length (written b)); lent = written b ++ drop (length (written b)) dest }
+    -- so it is written, given room
+    pub bill-laid : length (written b) ≤ length dest
+        → writeAnswer L text list (length (b .lines)) (b .break) dest ≡ record { answer = laid (length (written b)); lent = written b ++ drop (length (written b)) dest }
     unfolding writeAnswer written
-    bill-laid = rw (nothing-found, lines)
+    bill-laid room = rw (room-alone, le-ltb _ _ room, lines)
+
+    -- and else nothing changes
+    pub bill-not-laid : length dest < length (written b) → writeAnswer L text list (length (b .lines)) (b .break) dest ≡ record { answer = not-laid (under 15 0); lent = dest }
+    unfolding writeAnswer written
+    bill-not-laid short = rw (room-alone, lt-ltb _ _ short)
 
   -- a bill's own places, in what it is written as, give it again
   own-places : (b : Bill) (rest : List ℕ) (dest : Bytes) → Keeps L b → length (written b) ≤ length dest

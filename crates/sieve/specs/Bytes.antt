@@ -3,9 +3,10 @@ use Prim.Native.Nat.{ℕ, suc}
 use Prim.Native.Char.{code}
 use Prim.Native.String.{String, [] as []ˢ, _∷_ as _∷ˢ_}
 use mathlib.Core.Bool.{Bool, true, false, _&&_}
-use mathlib.Core.List.{List, [], _∷_}
+use mathlib.Core.List.{List, [], _∷_, _++_}
 use mathlib.Core.Option.{Option, some, none}
 use lib.Dec.{eqb, leb}
+use lib.ListN.{length, drop}
 
 abbrev pub Bytes : Type 0
 Bytes = List ℕ
@@ -32,3 +33,7 @@ every f (x ∷ xs) = f x && every f xs
 unfoldable pub firstSuch : {A : Type 0} → (A → Bool) → ℕ → List A → Option ℕ
 firstSuch f i [] = none
 firstSuch f i (x ∷ xs) = elim (f x) [ true ↦ some i | false ↦ firstSuch f (suc i) xs ]
+
+-- w laid over the front of d
+abbrev pub over : List ℕ → List ℕ → List ℕ
+over d w = w ++ drop (length w) d

@@ -17,6 +17,11 @@ pub data Text (w : Width) : Bytes → Type 0 where
   none-left : Text w []
   character : (c s : Bytes) (n : ℕ) → length c ≡ suc n → w (c ++ s) ≡ suc n → Text w s → Text w (c ++ s)
 
+-- how many characters it has
+abbrev pub count : {w : Width} {s : Bytes} → Text w s → ℕ
+count none-left = 0
+count (character c s n e h t) = suc (count t)
+
 -- how many bytes the break has that begins here, LF or CR directly followed by LF; 0 where none begins
 unfoldable pub breakWidth : Width
 breakWidth s = cond (eqb (getD s 0 0) 10) 1 (cond (eqb (getD s 0 0) 13 && eqb (getD s 1 0) 10) 2 0)
@@ -35,7 +40,7 @@ walk w zero (x ∷ s) i = elim (passes w (x ∷ s)) [ suc n ↦ walk w n s (suc 
 unfoldable pub badPlace : Width → Bytes → Option ℕ
 badPlace w s = walk w 0 s 0
 
--- bytes other than 80 to BF: of allowed text, its characters
+-- bytes other than 80 to BF: of text of 01's characters, as many as it has characters (`latin-counts`)
 unfoldable pub characters : Bytes → ℕ
 characters [] = 0
 characters (x ∷ s) = cond (within 0x80 0xBF x) 0 1 + characters s

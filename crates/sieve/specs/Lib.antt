@@ -1,8 +1,15 @@
 pub mod Bytes
+pub mod Letters
+pub mod Mod97
+pub mod Mod10
 pub mod Lines
 pub mod Characters
+pub mod Latin
 pub mod Rules
+pub mod Kinds
 pub mod Verdict
+pub mod Whole
+pub mod Order
 pub mod Paper
 pub mod Places
 pub mod Reading
@@ -11,4 +18,6 @@ pub mod Lawful
 pub mod Keeps
 pub mod Breaks
 pub mod Demand
+pub mod Cases
+pub mod Examples
 pub mod OneAnswer

@@ -31,14 +31,17 @@ When = List Bytes → Bool
 abbrev pub line : ℕ → List Bytes → Bytes
 line n ls = getD ls (n - 1) []
 
-abbrev pub isEmpty : ℕ → When
-isEmpty n ls = eqb (length (line n ls)) 0
-
-abbrev pub is : ℕ → String → When
-is n t ls = same (line n ls) (ascii t)
+abbrev pub noText : Bytes → Bool
+noText l = eqb (length l) 0
 
 abbrev pub has : ℕ → (Bytes → Bool) → When
 has n form ls = form (line n ls)
+
+abbrev pub isEmpty : ℕ → When
+isEmpty n = has n noText
+
+abbrev pub is : ℕ → String → When
+is n t ls = same (line n ls) (ascii t)
 
 abbrev pub isLast : ℕ → When
 isLast n ls = eqb (length ls) n

@@ -1,16 +1,18 @@
 -- The writer's whole answer for any text, list of places, count, break and destination, and what the destination then holds. Assumes nothing.
 use Prim.Native.Nat.{ℕ, zero, suc, _+_}
 use mathlib.Core.Bool.{Bool, not}
-use mathlib.Core.List.{List, [], _∷_, _++_, map}
+use mathlib.Core.List.{List, [], _∷_, map}
 use mathlib.Core.Option.{Option, some, none, Option·map}
+use mathlib.Core.Path.{_≡_}
 use lib.Dec.{ltb}
 use lib.ListN.{getD, take, drop, length}
 use Rattle.sieve.specs.declared.Break.{Break}
-use Rattle.sieve.specs.Bytes.{Bytes, within, firstSuch}
+use Rattle.sieve.specs.declared.Written.{Written}
+use Rattle.sieve.specs.Bytes.{Bytes, within, firstSuch, over}
 use Rattle.sieve.specs.Lines.{ofBreak, joined}
 use Rattle.sieve.specs.Rules.{Layout}
 use Rattle.sieve.specs.Verdict.{Refusal, under, underAt, found, findings, first}
-use Rattle.sieve.specs.Paper.{Laying, laid, not-laid}
+use Rattle.sieve.specs.Paper.{Laying, laid, not-laid, paperWritten}
 use Rattle.sieve.specs.Places.{Placed, entryNumbers, placed, listSize}
 use Rattle.sieve.specs.Reading.{Done, noRoom}
 
@@ -60,8 +62,13 @@ writeFindings L text list count k room =
 
 -- the joined bytes, in the front of the destination, where nothing is found
 abbrev pub laidOnto : Bytes → Bytes → Option Refusal → Done Laying
-laidOnto bytes dest none = record { answer = laid (length bytes); lent = bytes ++ drop (length bytes) dest }
+laidOnto bytes dest none = record { answer = laid (length bytes); lent = over dest bytes }
 laidOnto bytes dest (some r) = record { answer = not-laid r; lent = dest }
 
 unfoldable pub writeAnswer : Layout → Bytes → List ℕ → ℕ → Break → Bytes → Done Laying
 writeAnswer L text list count k dest = laidOnto (joined k (handed text list count)) dest (first (writeFindings L text list count k (length dest)))
+
+-- of a text, a list of places, a count, a break and a destination, the answer r and the destination afterwards
+pub record IsWritten (L : Layout) (text : Bytes) (list : List ℕ) (count : ℕ) (k : Break) (dest : Bytes) (r : Written) (after : Bytes) : Type 0 where
+  pub answer : paperWritten r ≡ writeAnswer L text list count k dest .answer
+  pub lent : after ≡ writeAnswer L text list count k dest .lent

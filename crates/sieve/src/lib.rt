@@ -42,6 +42,13 @@ pub enum Written {
     Refused(Fault),
 }
 
+// What a layout allows of a whole payload: at most so many bytes, and as many lines.
+pub struct Limits {
+    pub bytes: usize,
+    pub fewest: usize,
+    pub most: usize,
+}
+
 // The number that the paper gives a refusal.
 pub fn number_of(fault: Fault) -> u32
     ensures { λ r. ⌜ r ≡ paperFault fault .number ⌝ }

@@ -11,12 +11,12 @@ use Rattle.sieve.specs.Verdict.{accepted, findings, first, verdict}
 use Rattle.sieve.specs.Keeps.{Keeps}
 use Rattle.sieve.specs.Demand.{DemandThree}
 use Rattle.sieve.proofs.DemandThree.{demand-three, accepted-keeps}
-use Rattle.swiss.specs.Latin.{latin}
-use Rattle.swiss.specs.Mod97.{number, remainder97}
-use Rattle.swiss.specs.Mod10.{carry, checkDigit}
+use Rattle.sieve.specs.Latin.{latin}
+use Rattle.sieve.specs.Mod97.{number, remainder97}
+use Rattle.sieve.specs.Mod10.{carry, checkDigit}
 use Rattle.swiss.specs.Swiss.{rules, swiss}
-use Rattle.swiss.specs.Notation.{B}
-use Rattle.swiss.proofs.Latin.{lawful}
+use Rattle.swiss.specs.Base.{B}
+use Rattle.sieve.proofs.Latin.{lawful}
 
 -- the Swiss verdict meets demand 3
 pub swiss-demand-three : DemandThree swiss (verdict swiss)

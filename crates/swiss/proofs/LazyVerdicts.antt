@@ -13,11 +13,12 @@ use Rattle.sieve.specs.Verdict.{Refusal, under, Verdict, accepted, refused, fin
 use Rattle.sieve.specs.Demand.{AcceptsExactly, RefusesEarliest}
 use Rattle.sieve.proofs.Findings.{settled-accepts, verdict-is}
 use Rattle.sieve.proofs.DemandThree.{accepts-same, refuses-same}
-use Rattle.swiss.specs.Latin.{latin}
-use Rattle.swiss.specs.Mod97.{number, remainder97}
-use Rattle.swiss.specs.Mod10.{carry, checkDigit}
+use Rattle.sieve.specs.Latin.{latin}
+use Rattle.sieve.specs.Mod97.{number, remainder97}
+use Rattle.sieve.specs.Mod10.{carry, checkDigit}
 use Rattle.swiss.specs.Swiss.{rules, swiss}
-use Rattle.swiss.specs.Notation.{lines, B, put}
+use Rattle.sieve.specs.Cases.{lines, put}
+use Rattle.swiss.specs.Base.{B}
 use Rattle.swiss.proofs.DemandThree.{swiss-demand-three}
 
 -- the last broken rule instead of the first

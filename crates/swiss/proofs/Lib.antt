@@ -1,3 +1,4 @@
-pub mod Latin
 pub mod DemandThree
+pub mod Numbers
+pub mod Amounts
 pub mod LazyVerdicts

@@ -4,9 +4,9 @@ use mathlib.Core.Bool.{Bool, _&&_, _||_, not}
 use lib.Dec.{eqb, leb}
 use lib.ListN.{getD, take, drop, length}
 use Rattle.sieve.specs.Bytes.{Bytes, ascii, within, same, every}
-use Rattle.swiss.specs.Letters.{digit, capital, digitOrCapital, alphanumeric}
+use Rattle.sieve.specs.Letters.{digit, capital, digitOrCapital, alphanumeric}
 use Rattle.swiss.specs.Limits.{firstQrIid, lastQrIid}
-use Rattle.swiss.specs.Mod97.{number}
+use Rattle.sieve.specs.Mod97.{number}
 
 -- CH or LI, two digits, five digits (the IID), twelve of 0-9 A-Z
 abbrev pub iban : Bytes → Bool

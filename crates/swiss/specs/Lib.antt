@@ -1,11 +1,8 @@
 pub mod Limits
-pub mod Latin
-pub mod Letters
-pub mod Mod97
-pub mod Mod10
 pub mod Forms
-pub mod Kinds
+pub mod Cents
 pub mod Swiss
-pub mod Notation
+pub mod Order
+pub mod Base
 pub mod Table
 pub mod SecondTable

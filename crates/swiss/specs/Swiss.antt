@@ -3,14 +3,14 @@ use Prim.Native.Nat.{ℕ, _+_}
 use mathlib.Core.Bool.{Bool, cond, true, _&&_, _||_, not}
 use mathlib.Core.List.{List, [], _∷_, flatten}
 use lib.Dec.{ltb}
-use Rattle.sieve.specs.Bytes.{Bytes}
+use Rattle.sieve.specs.Bytes.{Bytes, ascii, same}
 use Rattle.sieve.specs.Characters.{characters}
 use Rattle.sieve.specs.Rules.{Rule, Layout, When, line, isEmpty, is, has, isLast, always, never, unless}
-use Rattle.swiss.specs.Latin.{latin}
-use Rattle.swiss.specs.Mod97.{checks97}
-use Rattle.swiss.specs.Mod10.{checks10}
+use Rattle.sieve.specs.Latin.{latin}
+use Rattle.sieve.specs.Mod97.{checks97}
+use Rattle.sieve.specs.Mod10.{checks10}
 use Rattle.swiss.specs.Limits.{mostBytes, fewestLines, mostLines, nameMost, streetMost, houseNumberMost, postcodeMost, townMost, amountMost, messageMost, billingMost, togetherMost, procedureMost, qrType, version, coding, trailer, structured, francs, euros, qrReference, creditorReference, noReference}
-use Rattle.swiss.specs.Kinds.{fixed, empty, filled, atMost, formed, checked}
+use Rattle.sieve.specs.Kinds.{fixed, empty, filled, atMost, formed, checked}
 use Rattle.swiss.specs.Forms.{iban, qrIban, country, amount, billing, qrr, scor}
 
 -- lines 1 to 3
@@ -56,22 +56,20 @@ reference =
     ∷ formed 29 (under28 qrr scor) ∷ checked 29 (under28 checks10 checks97)
     ∷ []
 
--- lines 30 to 34
+-- lines 30 to 32
 abbrev pub information : List Rule
-information =
-    atMost messageMost 30
-    ∷ fixed 31 trailer
-    ∷ atMost billingMost 32 ∷ formed 32 (has 32 billing)
-    ∷ filled 33 (isLast 33) ∷ atMost procedureMost 33
-    ∷ filled 34 (isLast 34) ∷ atMost procedureMost 34
-    ∷ []
+information = atMost messageMost 30 ∷ fixed 31 trailer ∷ atMost billingMost 32 ∷ formed 32 (has 32 billing) ∷ []
+
+-- lines 33 and 34
+abbrev pub procedures : List Rule
+procedures = filled 33 (isLast 33) ∷ atMost procedureMost 33 ∷ filled 34 (isLast 34) ∷ atMost procedureMost 34 ∷ []
 
 -- QRR stands exactly with a QR-IBAN, and only with CHF
-abbrev pub paired : When
-paired ls = cond (is 28 qrReference ls) (has 4 qrIban ls && is 20 francs ls) (not (has 4 qrIban ls))
+abbrev pub paired : Bytes → Bytes → Bytes → Bool
+paired account currency kind = cond (same kind (ascii qrReference)) (qrIban account && same currency (ascii francs)) (not (qrIban account))
 
 abbrev pub pairing : Rule
-pairing = record { number = 12; line = 28; broken = unless paired }
+pairing = record { number = 12; line = 28; broken = λ ls. not (paired (line 4 ls) (line 20 ls) (line 28 ls)) }
 
 abbrev pub together : Rule
 together = record { number = 13; line = 32; broken = λ ls. ltb togetherMost (characters (line 30 ls) + characters (line 32 ls)) }
@@ -87,6 +85,7 @@ rules =
     ∷ address 21 (isEmpty 21)
     ∷ reference
     ∷ information
+    ∷ procedures
     ∷ (pairing ∷ together ∷ [])
     ∷ [])
 

@@ -6,11 +6,12 @@ use Rattle.sieve.specs.Bytes.{firstSuch}
 use Rattle.sieve.specs.Lines.{cut, billOf}
 use Rattle.sieve.specs.Characters.{breakWidth, passes, walk, badPlace, characters, lineFeeds}
 use Rattle.sieve.specs.Verdict.{under, accepted, refused, findings, first, verdict}
-use Rattle.swiss.specs.Latin.{latin}
-use Rattle.swiss.specs.Mod97.{number, remainder97}
-use Rattle.swiss.specs.Mod10.{carry, checkDigit}
+use Rattle.sieve.specs.Latin.{latin}
+use Rattle.sieve.specs.Mod97.{number, remainder97}
+use Rattle.sieve.specs.Mod10.{carry, checkDigit}
 use Rattle.swiss.specs.Swiss.{rules, swiss}
-use Rattle.swiss.specs.Notation.{lines, B, put, Case, case, right}
+use Rattle.sieve.specs.Cases.{lines, put, Case, case, right}
+use Rattle.swiss.specs.Base.{B}
 
 pub starred : List Case
 starred =
@@ -31,6 +32,6 @@ starred =
     ∷ case Lf (put 4 "CH6431961000004421557" (put 28 "QRR" (put 29 "123456789098765432101234567" B))) (refused (under 11 29))
     ∷ []
 
-pub the-starred-cases : T (right starred)
+pub the-starred-cases : T (right swiss starred)
 unfolding starred right verdict swiss rules latin billOf cut breakWidth passes walk badPlace characters lineFeeds firstSuch findings first number remainder97 carry checkDigit flatten
 the-starred-cases = tt

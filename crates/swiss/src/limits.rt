@@ -1,10 +1,18 @@
 // The Swiss bill's limits and fixed texts.
+use sieve::Limits;
 
 pub const MOST_BYTES: usize = 997;
 
 pub const FEWEST_LINES: usize = 31;
 
 pub const MOST_LINES: usize = 34;
+
+// The same, of a whole payload.
+pub const LIMITS: Limits = Limits {
+    bytes: MOST_BYTES,
+    fewest: FEWEST_LINES,
+    most: MOST_LINES,
+};
 
 // The list of places: start and byte length for each of 34 lines.
 pub const LIST_SIZE: usize = 68;

@@ -34,9 +34,9 @@ first-line (x ∷ s) = go (head x s) (first-line s)
     go {x} (other e f) (followed l k r h) = followed (x ∷ l) k r (rw (e, f, h))
 
 -- the line is the front of the bytes
-pub front : {s : Bytes} → FirstLine s → take (length (cut s .first)) s ≡ cut s .first
-front (only l h) = rw h (take-length l)
-front (followed l k r h) = rw h (take-append-seam l (breakBytes k ++ r))
+pub first-in-front : {s : Bytes} → FirstLine s → take (length (cut s .first)) s ≡ cut s .first
+first-in-front (only l h) = rw h (take-length l)
+first-in-front (followed l k r h) = rw h (take-append-seam l (breakBytes k ++ r))
 
 -- byte by byte: one that begins no break is of the line, and a break ends it
 

@@ -1,30 +1,18 @@
 -- The bytes of a character or a break that begins here are there; a break holds one LF, and a character none. Assumes nothing.
-use Prim.Native.Nat.{ℕ, _+_, _≤_}
+use Prim.Native.Nat.{ℕ, _≤_}
 use native.Mathlib.Nat.{zero-add}
 use native.Mathlib.Omega.{arith}
-use mathlib.Core.List.{[], _∷_, _++_}
+use mathlib.Core.List.{[], _∷_}
 use mathlib.Core.Logic.{_≢_}
-use mathlib.Core.Path.{_≡_, refl, sym}
-use lib.Dec.{eqb}
+use mathlib.Core.Path.{_≡_, refl}
 use lib.ListN.{length, take}
 use borrow.Author.Tests.{ne-eqb}
 use Rattle.sieve.specs.Bytes.{Bytes}
 use Rattle.sieve.specs.Characters.{breakWidth, lineFeeds}
 use Rattle.sieve.specs.Lawful.{Plain, no-more, one-more}
 use Rattle.sieve.proofs.Heads.{Head, lf, crlf, other, head}
-use Rattle.swiss.specs.Latin.{latin}
-use Rattle.swiss.proofs.Latin.{lawful}
-use Rattle.runs.proofs.ByteByByte.{at-most}
-
-pub feeds-append : (a b : Bytes) → lineFeeds (a ++ b) ≡ lineFeeds a + lineFeeds b
-unfolding lineFeeds
-feeds-append [] b = sym (zero-add (lineFeeds b))
-feeds-append (x ∷ a) b = omega (arith, feeds-append a b)
-
-pub feeds-few : (s : Bytes) → lineFeeds s ≤ length s
-unfolding lineFeeds
-feeds-few [] = omega arith
-feeds-few (x ∷ s) = omega (arith, feeds-few s, at-most 1 (eqb x 10) 1 0 (omega arith) (omega arith))
+use Rattle.sieve.specs.Latin.{latin}
+use Rattle.sieve.proofs.Latin.{lawful}
 
 -- the first n bytes are there, and f of them are LF
 pub record Front (n f : ℕ) (s : Bytes) : Type 0 where

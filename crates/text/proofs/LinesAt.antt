@@ -16,7 +16,7 @@ use Rattle.sieve.specs.Characters.{breakWidth}
 use Rattle.text.specs.declared.LineAt.{LineAt}
 use Rattle.text.specs.Results.{IsLineAt}
 use Rattle.text.proofs.Fronts.{break-fits}
-use Rattle.text.proofs.FirstLine.{FirstLine, only, followed, first-line, front}
+use Rattle.text.proofs.FirstLine.{FirstLine, only, followed, first-line, first-in-front}
 
 no-break : breakWidth [] ≡ 0
 unfolding breakWidth
@@ -59,13 +59,13 @@ module _ (s : Bytes) (at : ℕ) (r : LineAt) (is : IsLineAt s at r) where
   pub line-is : take (r .end - at) (drop at s) ≡ cut (drop at s) .first
   line-is =
       let q : r .end - at ≡ length (cut (drop at s) .first) = omega (arith, is .end) in
-      rw q (front (first-line (drop at s)))
+      rw q (first-in-front (first-line (drop at s)))
 
   -- the next line starts within the bytes
   pub within : at ≤ length s → r .next ≤ length s
   within h =
       let t = drop at s in
-      omega (arith, is .end, is .next, ap length (front (first-line t)), length-take (length (cut t .first)) t, length-drop at s, break-fits (drop (r .end) s), length-drop (r .end) s)
+      omega (arith, is .end, is .next, ap length (first-in-front (first-line t)), length-take (length (cut t .first)) t, length-drop at s, break-fits (drop (r .end) s), length-drop (r .end) s)
 
 -- a line has one end, and one place where the next starts
 pub one-line : (s : Bytes) (at : ℕ) (r q : LineAt) → IsLineAt s at r → IsLineAt s at q → r ≡ q

@@ -5,12 +5,12 @@ use mathlib.Core.List.{List, [], _∷_, _++_, map, append-assoc, List·Memᴰ, L
 use mathlib.Core.Logic.{_≢_}
 use mathlib.Core.Path.{_≡_, refl, sym, ap, ap₂, _∙_}
 use lib.ListN.{length, getD, take, drop, length-append}
-use lib.Seq.{take-append-seam, drop-at}
 use Rattle.sieve.specs.declared.Break.{Break}
 use Rattle.sieve.specs.Bytes.{Bytes}
 use Rattle.sieve.specs.Lines.{Next, breakBytes, gluedAfter, cut, linesOf, breaksOf}
 use Rattle.sieve.specs.Places.{Placed, placed}
 use Rattle.sieve.proofs.Cutting.{glued-cut}
+use Rattle.sieve.proofs.Placing.{part-here}
 use Rattle.text.specs.declared.LineAt.{LineAt}
 use Rattle.text.specs.declared.Place.{Place}
 use Rattle.text.specs.Results.{IsLineAt, IsPlaceOf}
@@ -25,15 +25,12 @@ absent s = record { start = length s; text = [] }
 abbrev Lies : Bytes → Placed → Type 0
 Lies s l = take (length (l .text)) (drop (l .start) s) ≡ l .text
 
-here : (before l after : Bytes) (at : ℕ) → length before ≡ at → Lies (before ++ (l ++ after)) (record { start = at; text = l })
-here before l after at h = rw (drop-at before (l ++ after) at h) (take-append-seam l after)
-
 lie : (ns : List Next) (before l : Bytes) (at i : ℕ) → length before ≡ at → (s : Bytes) → before ++ (l ++ gluedAfter ns) ≡ s
     → Lies s (getD (linesFrom at l ns) i (absent s))
 unfolding linesFrom
-lie [] before l at zero h s e = rw (← e) (here before l [] at h)
+lie [] before l at zero h s e = rw (← e) (part-here before l [] at h)
 lie [] before l at (suc i) h s e = refl
-lie (n ∷ ns) before l at zero h s e = rw (← e) (here before l (gluedAfter (n ∷ ns)) at h)
+lie (n ∷ ns) before l at zero h s e = rw (← e) (part-here before l (gluedAfter (n ∷ ns)) at h)
 lie (n ∷ ns) before l at (suc i) h s e =
     let b = breakBytes (n .break) in
     let longer = before ++ (l ++ b) in
@@ -61,10 +58,10 @@ first-of at l (n ∷ ns) d = refl
 
 module _ (s : Bytes) (at : ℕ) (r : LineAt) (is : IsLineAt s at r) where
   -- the first of them is this line
-  pub this-line : IsPlaceOf (getD (linesAt s at) 0 (absent s)) (record { start = at; length = r .end - at })
+  pub this-line : IsPlaceOf (getD (linesAt s at) 0 (absent s)) (record { start = at; bytes = r .end - at })
   this-line =
       let e = first-of at (cut (drop at s) .first) (cut (drop at s) .rest) (absent s) in
-      record { start = rw e; length = rw e (omega (arith, is .end)) }
+      record { start = rw e; bytes = rw e (omega (arith, is .end)) }
 
   -- past the last there is none
   pub past-last : r .next ≡ r .end → (i : ℕ) → getD (linesAt s at) (suc i) (absent s) ≡ absent s
@@ -88,4 +85,4 @@ module _ (s : Bytes) (at : ℕ) (r : LineAt) (is : IsLineAt s at r) where
 
 -- a line has one place
 pub one-place : (l : Placed) (r q : Place) → IsPlaceOf l r → IsPlaceOf l q → r ≡ q
-one-place l r q h k = ap₂ {C = Place} (λ (a b : ℕ). record { start = a; length = b }) (h .start ∙ sym (k .start)) (h .length ∙ sym (k .length))
+one-place l r q h k = ap₂ {C = Place} (λ (a b : ℕ). record { start = a; bytes = b }) (h .start ∙ sym (k .start)) (h .bytes ∙ sym (k .bytes))

@@ -20,7 +20,7 @@ pub record IsLineAt (s : Bytes) (from : ℕ) (r : LineAt) : Type 0 where
 -- the place is that of a line
 pub record IsPlaceOf (l : Placed) (r : Place) : Type 0 where
   pub start : r .start ≡ l .start
-  pub length : r .length ≡ length (l .text)
+  pub bytes : r .bytes ≡ length (l .text)
 
 -- the place of the first byte found, if one is
 abbrev pub strayAs : Option ℕ → Stray

@@ -1,13 +1,15 @@
 // Characters, breaks and lines of any bytes: how wide a character or a break is, and the line finder.
 use sieve::Break;
 ghost use mathlib.Core.Path.{_≡_};
+ghost use Prim.Native.Nat.{_+_};
 ghost use lib.ListN.{length, drop, getD};
-ghost use Rattle.sieve.specs.Bytes.{firstSuch};
+ghost use Rattle.sieve.specs.Bytes.{every, firstSuch};
 ghost use Rattle.sieve.specs.Lines.{breakBytes, ofBreak};
 ghost use Rattle.sieve.specs.Characters.{breakWidth};
-ghost use Rattle.swiss.specs.Latin.{inOne, inTwo, inThree, latin};
+ghost use Rattle.sieve.specs.Latin.{inOne, inTwo, inThree, latin};
 ghost use Rattle.text.specs.LinesIn.{lineOf};
 ghost use Rattle.text.specs.Results.{IsLineAt, IsPlaceOf, strayAs};
+ghost use Rattle.text.specs.Runs.{run};
 
 // The byte `k` places after `at`, and 0 past the end.
 fn byte(s: &[u8], at: usize, k: usize) -> u8
@@ -26,6 +28,63 @@ pub fn in_one(x: u8) -> bool
     ensures { λ r. ⌜ r ≡ inOne x ⌝ }
 {
     (0x20 <= x) & (x <= 0x7E)
+}
+
+// How many bytes at the front are characters by themselves.
+fn plain_run(s: &[u8]) -> usize
+    ensures { λ r. ⌜ r ≡ run inOne (now (s .entry)) ⌝ }
+{
+    let mut i = 0;
+    while i < s.len() {
+        if in_one(s[i]) {
+            i += 1;
+        } else {
+            return i;
+        }
+    }
+    i
+}
+
+// Whether all bytes are characters by themselves. Each byte is asked, whatever was found of those before it: so the
+// compiler asks 16 at once where their number is known to be 16.
+fn all_plain(s: &[u8]) -> bool
+    ensures { λ r. ⌜ r ≡ every inOne (now (s .entry)) ⌝ }
+{
+    let mut all = true;
+    let mut i = 0;
+    while i < s.len() {
+        all = all & in_one(s[i]);
+        i += 1;
+    }
+    all
+}
+
+// The first place from `from` on that is no character by itself; the end where there is none. Most runs are short, so
+// 8 bytes are looked at one by one; after 8 that are characters more are likely, and 16 are passed at once.
+pub fn plain_end(s: &[u8], from: usize) -> usize
+    ensures { λ r. ⌜ r ≡ from + run inOne (drop from (now (s .entry))) ⌝ }
+{
+    if s.len() < from {
+        return from;
+    }
+    let mut at = from;
+    while 8 <= s.len() - at {
+        let to = at + 8;
+        let n = plain_run(&s[at..to]);
+        if n != 8 {
+            return at + n;
+        }
+        at = to;
+        while 16 <= s.len() - at {
+            let to = at + 16;
+            if all_plain(&s[at..to]) {
+                at = to;
+            } else {
+                break;
+            }
+        }
+    }
+    at + plain_run(&s[at..])
 }
 
 // C2 then A0 to BF; C3, C4 or C5 then 80 to BF; C8 then 98 to 9B. Umlauts and accents begin with C3, so that is asked
@@ -117,7 +176,7 @@ pub fn line_at(s: &[u8], from: usize) -> LineAt
 // Where a line lies.
 pub struct Place {
     pub start: usize,
-    pub length: usize,
+    pub bytes: usize,
 }
 
 // The place of line `n`, counted from 1; 0 counts as 1. An absent line lies at the end, with length 0.
@@ -131,13 +190,13 @@ pub fn line_place(s: &[u8], n: usize) -> Place
         let end = line.end;
         let next = line.next;
         if left <= 1 {
-            let length = end - at;
-            return Place { start: at, length };
+            let bytes = end - at;
+            return Place { start: at, bytes };
         }
         if next == end {
             return Place {
                 start: s.len(),
-                length: 0,
+                bytes: 0,
             };
         }
         at = next;

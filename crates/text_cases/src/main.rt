@@ -6,9 +6,9 @@ use libc::STDIN_FILENO;
 use libc::STDOUT_FILENO;
 use lines::Parted;
 use lines::Walked;
+use records::Record;
 use sieve::Break;
 use text::Stray;
-ghost use Prim.Native.Nat.{_≤_};
 
 fn write_first(n: usize) {
     io::print_decimal(STDOUT_FILENO, n as u64);
@@ -86,11 +86,12 @@ fn write_stray(s: &[u8]) {
 fn write_place(s: &[u8], n: usize) {
     let place = text::line_place(s, n);
     write_next(place.start);
-    write_next(place.length);
+    write_next(place.bytes);
 }
 
 fn write_answer(s: &[u8]) {
-    let told = lines::walk(s);
+    let mut places = [0; 68];
+    let told = lines::walk(s, &mut places);
     let walked = told.walked;
     let parted = told.parted;
     write_walked(walked);
@@ -104,27 +105,17 @@ fn write_answer(s: &[u8]) {
     io::write_all(STDOUT_FILENO, b"\n");
 }
 
-fn wide(x: u8) -> usize
-    ensures { λ r. ⌜ r ≤ 255 ⌝ }
-{
-    x as usize
-}
-
 // A record that is cut off is not written.
 fn write_answers(input: &[u8]) {
     let mut at = 0;
-    while at < input.len() {
-        if input.len() - at < 2 {
-            return;
+    loop {
+        match records::record_at(input, at) {
+            Record::At(start, end) => {
+                write_answer(&input[start..end]);
+                at = end;
+            }
+            Record::Nothing => return,
         }
-        let length = wide(input[at]) + 256 * wide(input[at + 1]);
-        let start = at + 2;
-        if input.len() - start < length {
-            return;
-        }
-        let end = start + length;
-        write_answer(&input[start..end]);
-        at = end;
     }
 }
 

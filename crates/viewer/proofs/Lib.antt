@@ -1,4 +1,7 @@
 pub mod Onward
+pub mod Standing
+pub mod Places
 pub mod Promise
 pub mod Taken
+pub mod Reaching
 pub mod OneAnswer

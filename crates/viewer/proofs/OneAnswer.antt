@@ -13,30 +13,34 @@ use denote.Ref.{RefT, now}
 use denote.Triple.Entry.{Args, Res}
 use denote.Triple.Clauses.{Ended, AtExit, Clauses}
 use Rattle.sieve.specs.Bytes.{Bytes}
-use Rattle.sieve.specs.OneAnswer.{Told, OneAnswer}
+use Rattle.sieve.specs.OneAnswer.{Learns, OneAnswer}
 use Rattle.sieve.proofs.PaperLosesNothing.{one-answer}
 use Rattle.viewer.specs.View.{isDone, standing}
 use Rattle.viewer.specs.Held.{IsOpened, IsLine, IsNext}
+use Rattle.viewer.proofs.Promise.{MayDone, MayLine}
 use Rattle.viewer.proofs as fn
 
-abbrev Open : Told fn.open.ended
+abbrev Open : Learns fn.open.ended
 Open κs a r e = IsOpened (a .0) r
 
-abbrev Done : Told fn.done.ended
-Done κs a r e = r ≡ isDone (now (a .0 .payload)) (a .0 .at)
+abbrev Done : Learns fn.done.ended
+Done κs a r e = MayDone (a .0) r
 
-abbrev Line : Told fn.line.ended
-Line κs a r e = IsLine (a .0 .payload) (a .0 .at) r
+abbrev Line : Learns fn.line.ended
+Line κs a r e = MayLine (a .0) r
 
-abbrev Next : Told fn.next.ended
+abbrev Next : Learns fn.next.ended
 Next κs a r e = IsNext (a .0) r
 
-abbrev Account : Told fn.account.ended
-Account κs a r e = IsLine (a .0) (standing (now (a .0)) 3) r
+abbrev LineAfter : Learns fn.line_after.ended
+LineAfter κs a r e = IsLine (a .0) (standing (now (a .0)) (a .1 .0)) r
+
+abbrev DoneAfter : Learns fn.done_after.ended
+DoneAfter κs a r e = r ≡ isDone (now (a .0)) (standing (now (a .0)) (a .1 .0))
 
 -- in any model, a contract says what its reading says and nothing else
 module _ {M : Type 1} (𝓤 : URA M) (H : Heap 𝓤) (A : Atoms 𝓤) (mem : Memory → SProp 𝓤) (run : Routine → Fun 𝓤) where
-  abbrev Says : (T : Ended) → Told T → Clauses 𝓤 T → Type 2
+  abbrev Says : (T : Ended) → Learns T → Clauses 𝓤 T → Type 2
   Says T Learnt clauses =
       (κs : Lfts (T .signature .lifetimes)) (a : Args (T .signature) κs) (g : clauses κs a .ghost) (r : Res (T .signature) κs) (e : AtExit T κs) → clauses κs a .ensures g r e ≡ fact 𝓤 (Learnt κs a r e)
 
@@ -52,8 +56,11 @@ module _ {M : Type 1} (𝓤 : URA M) (H : Heap 𝓤) (A : Atoms 𝓤) (mem : Mem
   next-says : Says fn.next.ended Next (fn.next.clauses 𝓤 H A mem run)
   next-says κs a g r e = refl
 
-  account-says : Says fn.account.ended Account (fn.account.clauses 𝓤 H A mem run)
-  account-says κs a g r e = refl
+  line-after-says : Says fn.line_after.ended LineAfter (fn.line_after.clauses 𝓤 H A mem run)
+  line-after-says κs a g r e = refl
+
+  done-after-says : Says fn.done_after.ended DoneAfter (fn.done_after.clauses 𝓤 H A mem run)
+  done-after-says κs a g r e = refl
 
 pub one-open : OneAnswer fn.open.ended Open
 one-open κs a x y v w h k =
@@ -61,6 +68,9 @@ one-open κs a x y v w h k =
 
 pub one-done : OneAnswer fn.done.ended Done
 one-done κs a x y v w h k = (h ∙ sym k, refl)
+
+pub one-done-after : OneAnswer fn.done_after.ended DoneAfter
+one-done-after κs a x y v w h k = (h ∙ sym k, refl)
 
 pub one-next : OneAnswer fn.next.ended Next
 one-next κs a x y v w h k = (λ i. record { payload = (h .payload ∙ sym (k .payload)) i; at = (h .at ∙ sym (k .at)) i; answer = (h .answer ∙ sym (k .answer)) i }, refl)
@@ -75,5 +85,5 @@ one-part lent at x y h k = (λ i. ((h .memory ∙ sym (k .memory)) i, (h .start 
 pub one-line : (κs : Lfts 1) (a : Args fn.line.signature κs) (x y : RefT Bytes) (e f : AtExit fn.line.ended κs) → Line κs a x e → Line κs a y f → SamePart x y
 one-line κs a x y e f h k = one-part _ _ x y h k
 
-pub one-account : (κs : Lfts 1) (a : Args fn.account.signature κs) (x y : RefT Bytes) (e f : AtExit fn.account.ended κs) → Account κs a x e → Account κs a y f → SamePart x y
-one-account κs a x y e f h k = one-part _ _ x y h k
+pub one-line-after : (κs : Lfts 1) (a : Args fn.line_after.signature κs) (x y : RefT Bytes) (e f : AtExit fn.line_after.ended κs) → LineAfter κs a x e → LineAfter κs a y f → SamePart x y
+one-line-after κs a x y e f h k = one-part _ _ x y h k

@@ -1,5 +1,5 @@
 -- What the viewer's functions answer. Assumes nothing.
-use Prim.Native.Nat.{ℕ, _+_}
+use Prim.Native.Nat.{ℕ, zero, suc, _+_}
 use mathlib.Core.Bool.{cond}
 use mathlib.Core.Path.{_≡_}
 use lib.ListN.{length}
@@ -10,7 +10,7 @@ use Rattle.sieve.specs.Verdict.{verdict}
 use Rattle.swiss.specs.Swiss.{swiss}
 use Rattle.viewer.specs.declared.Viewer.{Viewer}
 use Rattle.viewer.specs.declared.Begun.{Begun}
-use Rattle.viewer.specs.View.{opened, isDone, lineFrom, nextFrom}
+use Rattle.viewer.specs.View.{opened, isDone, lineFrom, nextFrom, movedFrom}
 
 -- the reader's answer, and where the first line starts
 pub record IsBegun (p : Bytes) (r : Begun) : Type 0 where
@@ -34,3 +34,14 @@ pub record IsNext (v r : Viewer) : Type 0 where
   pub payload : r .payload ≡ v .payload
   pub at : r .at ≡ nextFrom (now (v .payload)) (v .at)
   pub answer : r .answer ≡ v .answer
+
+-- the same payload and answer, so many lines on
+pub record IsMoved (v : Viewer) (moves : ℕ) (r : Viewer) : Type 0 where
+  pub payload : r .payload ≡ v .payload
+  pub at : r .at ≡ movedFrom (now (v .payload)) moves (v .at)
+  pub answer : r .answer ≡ v .answer
+
+-- a viewer that was opened on a payload, and then moved on so many times
+pub data Moved (lent : RefT Bytes) : ℕ → Viewer → Type 0 where
+  opening : {v : Viewer} → IsOpened lent v → Moved lent zero v
+  once-more : {i : ℕ} {w v : Viewer} → Moved lent i w → IsNext w v → Moved lent (suc i) v

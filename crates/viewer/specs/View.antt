@@ -35,6 +35,11 @@ unfoldable pub standing : Bytes → ℕ → ℕ
 standing p zero = opened p (verdict swiss p)
 standing p (suc i) = nextFrom p (standing p i)
 
+-- the place so many lines after a place
+unfoldable pub movedFrom : Bytes → ℕ → ℕ → ℕ
+movedFrom p zero at = at
+movedFrom p (suc i) at = movedFrom p i (nextFrom p at)
+
 -- what is handed out from a place on, asked at most so many times, until it is done
 unfoldable pub shownFrom : Bytes → ℕ → ℕ → List Bytes
 shownFrom p zero at = []

@@ -1,10 +1,10 @@
 // A viewer: it keeps hold of a payload, and hands out line after line.
-use judge::judge;
 use sieve::Answer;
+use swiss_judge::verdict;
 use text::line_at;
 ghost use mathlib.Core.Path.{_≡_};
-ghost use Rattle.viewer.specs.View.{isDone, lineFrom, nextFrom, standing};
-ghost use Rattle.viewer.specs.Held.{IsBegun, IsOpened, IsLine, IsNext};
+ghost use Rattle.viewer.specs.View.{isDone, nextFrom, standing};
+ghost use Rattle.viewer.specs.Held.{IsBegun, IsOpened, IsLine, IsNext, IsMoved};
 
 // The payload, the place where the next line starts, and what the reader answers.
 pub struct Viewer<'a> {
@@ -24,9 +24,7 @@ fn begin(payload: &[u8]) -> Begun
     ensures { λ r. ⌜ IsBegun (now (payload .entry)) r ⌝ }
 {
     let past = payload.len() + 1;
-    let judged = judge(payload);
-    let answer = judged.answer;
-    match answer {
+    match verdict(payload) {
         Answer::Accepted(n, k) => Begun {
             at: 0,
             answer: Answer::Accepted(n, k),
@@ -107,9 +105,26 @@ pub fn next<'a>(v: Viewer<'a>) -> Viewer<'a>
     }
 }
 
-// The account to which a bill is paid, line 4, as that part of the payload; an empty part where it is refused.
-pub fn account<'a>(payload: &'a [u8]) -> &'a [u8]
-    ensures { λ r. ⌜ IsLine (payload .entry) (standing (now (payload .entry)) 3) r ⌝ }
+// The viewer so many lines on.
+fn moved<'a>(v: Viewer<'a>, moves: usize) -> Viewer<'a>
+    ensures { λ r. ⌜ IsMoved (v .entry) moves r ⌝ }
 {
-    line(next(next(next(open(payload)))))
+    if moves == 0 {
+        return v;
+    }
+    moved(next(v), moves - 1)
+}
+
+// The line at which a viewer stands that was opened on the payload and moved on so many times.
+pub fn line_after<'a>(payload: &'a [u8], moves: usize) -> &'a [u8]
+    ensures { λ r. ⌜ IsLine (payload .entry) (standing (now (payload .entry)) moves) r ⌝ }
+{
+    line(moved(open(payload), moves))
+}
+
+// Whether such a viewer is done.
+pub fn done_after(payload: &[u8], moves: usize) -> bool
+    ensures { λ r. ⌜ r ≡ isDone (now (payload .entry)) (standing (now (payload .entry)) moves) ⌝ }
+{
+    done(moved(open(payload), moves))
 }

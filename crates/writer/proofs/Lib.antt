@@ -1,5 +1,3 @@
-pub mod Handing
-pub mod Laying
-pub mod Writing
+pub mod Suits
 pub mod Promise
 pub mod OneAnswer

@@ -1,29 +1,35 @@
 -- What a user of the writer may rely on, stated on its contract. Assumes nothing.
-use Prim.Native.Nat.{ℕ, _≤_}
+use Prim.Native.Nat.{ℕ, _≤_, _<_}
 use mathlib.Core.List.{List, _++_}
 use mathlib.Core.Path.{_≡_, sym, ap, _∙_}
-use lib.Dec.{lit≤}
-use lib.ListN.{length, drop}
+use lib.ListN.{length, take, drop}
+use Rattle.sieve.specs.declared.Answer.{Answer}
+use Rattle.sieve.specs.declared.Answer.the-variants.{Accepted}
 use Rattle.sieve.specs.declared.Break.{Break}
 use Rattle.sieve.specs.declared.Fault.{Fault}
+use Rattle.sieve.specs.declared.Fault.the-variants.{NoRoom}
 use Rattle.sieve.specs.declared.Written.{Written}
 use Rattle.sieve.specs.declared.Written.the-variants.{Length, Refused}
-use Rattle.sieve.specs.Bytes.{Bytes}
+use Rattle.sieve.specs.Bytes.{Bytes, over}
 use Rattle.sieve.specs.Lines.{Bill, written, billOf}
 use Rattle.sieve.specs.Verdict.{accepted, verdict}
 use Rattle.sieve.specs.Paper.{paperFault}
 use Rattle.sieve.specs.Places.{placesOf}
 use Rattle.sieve.specs.Keeps.{Keeps}
-use Rattle.sieve.specs.Writing.{spans, handed}
+use Rattle.sieve.specs.Reading.{IsRead}
+use Rattle.sieve.specs.Writing.{spans, handed, IsWritten}
 use Rattle.sieve.proofs.PaperLosesNothing.{one-written}
-use Rattle.sieve.proofs.WriterPromises.{handedBill, NoneOutside, laid-written, laid-accepted, refused-unchanged, bill-laid, round-trip}
+use Rattle.sieve.proofs.WriterPromises.{handedBill, NoneOutside, laid-written, laid-accepted, refused-unchanged, bill-laid, bill-not-laid, round-trip}
+use Rattle.sieve.proofs.Room.{Short, short-alone}
+use Rattle.sieve.proofs.Together as together
 use Rattle.swiss.specs.Swiss.{swiss}
-use Rattle.swiss.proofs.Latin.{lawful}
-use Rattle.writer.specs.Writing.{IsWritten}
+use Rattle.swiss.proofs.Numbers.{small-findings}
+use Rattle.joining.proofs.Stages.{short-list}
+use Rattle.writer.proofs.Suits.{suits}
 
 -- one answer, and one content of the destination
 pub one-writing : (text : Bytes) (list : List ℕ) (count : ℕ) (k : Break) (dest : Bytes) (q r : Written) (a b : Bytes)
-    → IsWritten text list count k dest q a → IsWritten text list count k dest r b → (q ≡ r) × (a ≡ b)
+    → IsWritten swiss text list count k dest q a → IsWritten swiss text list count k dest r b → (q ≡ r) × (a ≡ b)
 one-writing text list count k dest q r a b h j = (one-written q r (h .answer ∙ sym (j .answer)), h .lent ∙ sym (j .lent))
 
 module _ (text : Bytes) (list : List ℕ) (count : ℕ) (k : Break) (dest after : Bytes) where
@@ -31,31 +37,59 @@ module _ (text : Bytes) (list : List ℕ) (count : ℕ) (k : Break) (dest after 
   b = handedBill text list count k
 
   -- what is written is the bill of those lines and that break; what lies behind it stays
-  pub lines-are-written : (n : ℕ) → IsWritten text list count k dest (Length n) after → (n ≡ length (written b)) × (after ≡ written b ++ drop (length (written b)) dest)
+  pub lines-are-written : (n : ℕ) → IsWritten swiss text list count k dest (Length n) after → (n ≡ length (written b)) × (after ≡ written b ++ drop (length (written b)) dest)
   lines-are-written n h = let (e, l) = laid-written swiss text list count k dest n (sym (h .answer)) in (e, h .lent ∙ l)
 
   -- the reader accepts it and gives back the same lines and break: the bill keeps every rule
-  pub written-is-accepted : (n : ℕ) → IsWritten text list count k dest (Length n) after → (verdict swiss (written b) ≡ accepted count k) × (billOf (written b) ≡ b) × Keeps swiss b
-  unfolding swiss
-  written-is-accepted n h = laid-accepted swiss text list count k dest (λ ls. lawful) (lit≤ tt) n (sym (h .answer))
+  pub written-is-accepted : (n : ℕ) → IsWritten swiss text list count k dest (Length n) after → (verdict swiss (written b) ≡ accepted count k) × (billOf (written b) ≡ b) × Keeps swiss b
+  written-is-accepted n h = laid-accepted swiss text list count k dest (suits .lawful) (suits .two) n (sym (h .answer))
 
   -- a refusal changes nothing
-  pub refusal-changes-nothing : (f : Fault) → IsWritten text list count k dest (Refused f) after → after ≡ dest
+  pub refusal-changes-nothing : (f : Fault) → IsWritten swiss text list count k dest (Refused f) after → after ≡ dest
   refusal-changes-nothing f h = h .lent ∙ refused-unchanged swiss text list count k dest (paperFault f) (sym (h .answer))
 
 -- a bill that keeps every rule, whose lines lie anywhere in a text by any places, is written, given room
 pub bill-is-written : (b : Bill) (text : Bytes) (list : List ℕ) (dest after : Bytes) (r : Written) → Keeps swiss b → 68 ≤ length list → handed text list (length (b .lines)) ≡ b .lines
-    → NoneOutside (length text) (spans (length (b .lines)) list) → length (written b) ≤ length dest → IsWritten text list (length (b .lines)) (b .break) dest r after
+    → NoneOutside (length text) (spans (length (b .lines)) list) → length (written b) ≤ length dest → IsWritten swiss text list (length (b .lines)) (b .break) dest r after
     → (r ≡ Length (length (written b))) × (after ≡ written b ++ drop (length (written b)) dest)
 unfolding swiss
 bill-is-written b text list dest after r keeps size lines inside room h =
-    let e = bill-laid swiss (λ ls. lawful) (lit≤ tt) b text list dest keeps size lines inside room in
+    let e = bill-laid swiss (suits .lawful) (suits .two) b text list dest keeps size lines inside room in
     (one-written r _ (h .answer ∙ ap (λ d. d .answer) e), h .lent ∙ ap (λ d. d .lent) e)
 
 -- round trip: an accepted payload, with its own places, count and break, gives the payload again, given room
 pub payload-again : (p : Bytes) (n : ℕ) (k : Break) (rest : List ℕ) (dest after : Bytes) (r : Written) → verdict swiss p ≡ accepted n k → length p ≤ length dest
-    → IsWritten p (placesOf swiss (billOf p) ++ rest) n k dest r after → (r ≡ Length (length p)) × (after ≡ p ++ drop (length p) dest)
-unfolding swiss
+    → IsWritten swiss p (placesOf swiss (billOf p) ++ rest) n k dest r after → (r ≡ Length (length p)) × (after ≡ p ++ drop (length p) dest)
 payload-again p n k rest dest after r h room w =
-    let e = round-trip swiss (λ ls. lawful) (lit≤ tt) p n k rest dest h room in
+    let e = round-trip swiss (suits .lawful) (suits .two) p n k rest dest h room in
     (one-written r _ (w .answer ∙ ap (λ d. d .answer) e), w .lent ∙ ap (λ d. d .lent) e)
+
+-- too little room: a list of fewer than 68 numbers, or a destination shorter than the bill; nothing changes
+
+pub list-too-short : {text dest after : Bytes} {list : List ℕ} {count : ℕ} {k : Break} {r : Written} → length list < 68 → IsWritten swiss text list count k dest r after → (r ≡ Refused NoRoom) × (after ≡ dest)
+unfolding swiss
+list-too-short h w = one-writing _ _ _ _ _ _ _ _ _ w (short-list h)
+
+pub destination-too-short : (b : Bill) (text : Bytes) (list : List ℕ) (dest after : Bytes) (r : Written) → Keeps swiss b → 68 ≤ length list → handed text list (length (b .lines)) ≡ b .lines
+    → NoneOutside (length text) (spans (length (b .lines)) list) → length dest < length (written b) → IsWritten swiss text list (length (b .lines)) (b .break) dest r after
+    → (r ≡ Refused NoRoom) × (after ≡ dest)
+unfolding swiss
+destination-too-short b text list dest after r keeps size lines inside short h =
+    let e = bill-not-laid swiss (suits .lawful) (suits .two) b text list dest keeps size lines inside short in
+    (one-written r _ (h .answer ∙ ap (λ d. d .answer) e), h .lent ∙ ap (λ d. d .lent) e)
+
+-- and only then: where there is too little room, nothing else is wrong
+pub room-alone : {text dest after : Bytes} {list : List ℕ} {count : ℕ} {k : Break} → IsWritten swiss text list count k dest (Refused NoRoom) after → Short swiss text list count k dest (suits .lawful) (suits .two)
+room-alone {text} {dest} {after} {list} {count} {k} h = short-alone swiss text list count k dest (suits .lawful) (suits .two) (small-findings _) (sym (h .answer))
+
+-- with the reader: what was read into a list, and is written from it, gives the payload again
+pub read-then-written : {p : Bytes} {list after : List ℕ} {n : ℕ} {k : Break} {dest end : Bytes} {r : Written} → 68 ≤ length list → IsRead swiss p list (Accepted n k) after → length p ≤ length dest
+    → IsWritten swiss p after n k dest r end → (r ≡ Length (length p)) × (end ≡ over dest p)
+unfolding swiss
+read-then-written = together.read-then-written swiss (suits .lawful) (suits .two)
+
+-- and what was written is read with that count and break, and the places cut out the lines that were handed over
+pub written-then-read : {text dest end : Bytes} {list other after : List ℕ} {count n : ℕ} {k : Break} {r : Answer} → IsWritten swiss text list count k dest (Length n) end → 68 ≤ length other
+    → IsRead swiss (take n end) other r after → (r ≡ Accepted count k) × (handed (take n end) after count ≡ handed text list count)
+unfolding swiss
+written-then-read = together.written-then-read swiss (suits .lawful) (suits .two)

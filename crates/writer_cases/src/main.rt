@@ -6,6 +6,8 @@
 // All of the input is held at once: a stored input has at most 524,288 bytes.
 use libc::STDIN_FILENO;
 use libc::STDOUT_FILENO;
+use records::Record;
+use records::number;
 use sieve::Break;
 use sieve::Fault;
 use sieve::Written;
@@ -13,7 +15,6 @@ use sieve::line_of;
 use sieve::number_of;
 use writer::write;
 ghost use mathlib.Core.Path.{_≡_};
-ghost use Prim.Native.Nat.{_+_, _≤_, _<_};
 ghost use lib.ListN.{length};
 
 // What the destination is filled with before the call: a byte that no bill holds.
@@ -51,44 +52,29 @@ fn write_written(w: Written) {
     }
 }
 
+fn wide(x: u8) -> u64 {
+    x as u64
+}
+
 fn write_bytes(bytes: &[u8]) {
     let mut i = 0;
     while i < bytes.len() {
-        io::print_hex(STDOUT_FILENO, wide(bytes[i]) as u64, 2);
+        io::print_hex(STDOUT_FILENO, wide(bytes[i]), 2);
         i += 1;
     }
     io::write_all(STDOUT_FILENO, b"\n");
-}
-
-fn wide(x: u8) -> usize
-    ensures { λ r. ⌜ r ≤ 255 ⌝ }
-{
-    x as usize
-}
-
-// The number of two bytes, the low one first.
-fn number(bytes: &[u8], at: usize) -> usize
-    requires { ⌜ at + 1 < length (now bytes) ⌝ }
-    ensures { λ r. ⌜ r ≤ 65535 ⌝ }
-{
-    wide(bytes[at]) + 256 * wide(bytes[at + 1])
 }
 
 fn break_of(n: usize) -> Break {
     if n == 1 { Break::Lf } else { Break::CrLf }
 }
 
-// Fills the list with the numbers in the bytes, as many as there are.
+// Fills the list with the numbers in the bytes, and with 0 where there are no more.
 fn fill(list: &mut [u16], bytes: &[u8]) {
     let mut i = 0;
-    let mut at = 0;
     while i < list.len() {
-        if bytes.len() - at < 2 {
-            return;
-        }
-        list[i] = number(bytes, at) as u16;
+        list[i] = number(bytes, 2 * i) as u16;
         i += 1;
-        at += 2;
     }
 }
 
@@ -99,11 +85,8 @@ fn write_answer(text: &[u8], list: &[u16], count: usize, brk: Break, dest: &mut 
 }
 
 // Calls the writer with the front of the list and of the destination. A record that is cut off, or that asks for more
-// than they have, is not written.
+// than they have, is not written; one that is cut off in its head is shorter than `end`, too.
 fn write_call(record: &[u8], list: &mut [u16], dest: &mut [u8]) {
-    if record.len() < HEAD_BYTES {
-        return;
-    }
     let count = number(record, 0);
     let brk = break_of(number(record, 2));
     let room = number(record, 4);
@@ -137,18 +120,14 @@ fn write_record(record: &[u8]) {
 // A record that is cut off is not written.
 fn write_answers(input: &[u8]) {
     let mut at = 0;
-    while at < input.len() {
-        if input.len() - at < 2 {
-            return;
+    loop {
+        match records::record_at(input, at) {
+            Record::At(start, end) => {
+                write_record(&input[start..end]);
+                at = end;
+            }
+            Record::Nothing => return,
         }
-        let length = number(input, at);
-        let start = at + 2;
-        if input.len() - start < length {
-            return;
-        }
-        let end = start + length;
-        write_record(&input[start..end]);
-        at = end;
     }
 }
 

@@ -1,6 +1,6 @@
 -- `bench_calls::packed_fault` meets its contract: number and line, packed, fit in 32 bits. Assumes nothing.
 use native.Mathlib.Omega.{arith}
-use Rattle.judge.proofs.Numbers.{low-number}
+use Rattle.sieve.proofs.Numbers.{low-number}
 use borrow.Author.Needs.{needs}
 use Rattle.bench_calls.proofs.packed_fault.Statement.{statement}
 use Rattle.bench_calls.proofs.packed_fault.Tie as tie

@@ -1,7 +1,7 @@
 -- `bench_calls::sieve_read` meets its contract: what the reader answers is small. Assumes nothing.
 use native.Mathlib.Omega.{arith}
 use Rattle.bench_calls.proofs.Numbers.{read-line, read-count, low-mark}
-use Rattle.bench_calls.proofs.Packing.{read-packs}
+use Rattle.bench_calls.proofs.Answers.{read-packs}
 use borrow.Author.Needs.{needs}
 use Rattle.bench_calls.proofs.sieve_read.Statement.{statement}
 use Rattle.bench_calls.proofs.sieve_read.Tie as tie

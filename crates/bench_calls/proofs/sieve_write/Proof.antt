@@ -2,7 +2,7 @@
 use native.Mathlib.Omega.{arith}
 use mathlib.Core.Path.{refl}
 use Rattle.bench_calls.proofs.Numbers.{write-line, write-length}
-use Rattle.bench_calls.proofs.Packing.{write-packs}
+use Rattle.bench_calls.proofs.Answers.{write-packs}
 use borrow.Author.Needs.{needs}
 use Rattle.bench_calls.proofs.sieve_write.Statement.{statement}
 use Rattle.bench_calls.proofs.sieve_write.Tie as tie

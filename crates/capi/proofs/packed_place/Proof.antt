@@ -1,4 +1,4 @@
--- `capi::packed_place` meets its contract: two numbers of 16 bits, packed, fit in 32. Assumes nothing.
+-- `capi::packed_place` meets its contract: two numbers of 16 bits, packed, fit in 32, in whichever order. Assumes nothing.
 use native.Mathlib.Omega.{arith}
 use Prim.Native.Nat.{_+_, _-_, _*_}
 use borrow.Author.Needs.{needs}
@@ -18,10 +18,10 @@ shared-slice-read-result : tie.Need-shared-slice-read-result
 shared-slice-read-result c = search needs
 
 cast-result : tie.Need-cast-result
-cast-result c = omega (arith, c .shared-slice-known .given (2 * (c .before .args .line - 1)))
+cast-result c = let small = c .shared-slice-known .given in let i = 2 * (c .before .args .line - 1) in omega (arith, small i, small (i + 1))
 
 mul-result-2 : tie.Need-mul-result-2
-mul-result-2 c = omega (arith, c .shared-slice-known .given (2 * (c .before .args .line - 1)))
+mul-result-2 c = let small = c .shared-slice-known .given in let i = 2 * (c .before .args .line - 1) in omega (arith, small i, small (i + 1))
 
 add-result : tie.Need-add-result
 add-result c = search needs
@@ -33,10 +33,10 @@ shared-slice-read-result-2 : tie.Need-shared-slice-read-result-2
 shared-slice-read-result-2 c = search needs
 
 cast-result-2 : tie.Need-cast-result-2
-cast-result-2 c = omega (arith, c .shared-slice-known2 .given (2 * (c .before .before .args .line - 1) + 1))
+cast-result-2 c = let small = c .shared-slice-known2 .given in let i = 2 * (c .before .before .args .line - 1) in omega (arith, small i, small (i + 1))
 
 add-result-2 : tie.Need-add-result-2
-add-result-2 c = omega (arith, c .before .shared-slice-known .given (2 * (c .before .before .args .line - 1)), c .shared-slice-known2 .given (2 * (c .before .before .args .line - 1) + 1))
+add-result-2 c = let small = c .shared-slice-known2 .given in let i = 2 * (c .before .before .args .line - 1) in omega (arith, small i, small (i + 1))
 
 returns : tie.Need-returns
 returns c = search needs

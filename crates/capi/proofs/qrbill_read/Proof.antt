@@ -1,5 +1,6 @@
 -- `capi::qrbill_read` meets its contract: number and line of a verdict, packed, fit in 32 bits. Assumes nothing.
-use Rattle.judge.proofs.Numbers.{line-count, low-line, low-number}
+use Rattle.sieve.proofs.Numbers.{low-number}
+use Rattle.swiss.proofs.Numbers.{low-line, line-count}
 use Rattle.swiss.specs.Swiss.{swiss}
 use Rattle.sieve.specs.Verdict.{accepted, refused, verdict}
 use Rattle.sieve.specs.Paper.{paper, paperFault}
@@ -9,34 +10,34 @@ use borrow.Author.Needs.{needs}
 use Rattle.capi.proofs.qrbill_read.Statement.{statement}
 use Rattle.capi.proofs.qrbill_read.Tie as tie
 
-judge-requires : tie.Need-judge-requires
-judge-requires c κs = search needs
+verdict-requires : tie.Need-verdict-requires
+verdict-requires c κs = search needs
 
-enum-known-answer : tie.Need-enum-known-answer
-enum-known-answer c = search needs
+enum-known-n : tie.Need-enum-known-n
+enum-known-n c = search needs
 
 -- what the answer says of the payload
 
-accepted-is : (c : tie.After-known-told) → verdict swiss (c .before .before .before .before .before .args .payload .now) ≡ accepted (c .before .answer .given .0 .0) (c .before .answer .given .0 .1 .0)
-accepted-is c = sym (c .before .before .before .judge .ensures .answer) ∙ ap paper (c .before .answer .given .1)
+accepted-is : (c : tie.After-known-told) → verdict swiss (c .before .before .before .before .before .args .payload .now) ≡ accepted (c .before .n .given .0 .0) (c .before .n .given .0 .1 .0)
+accepted-is c = sym (c .before .before .before .verdict .ensures) ∙ ap paper (c .before .n .given .1)
 
-refused-is : (c : tie.After-known-told2) → verdict swiss (c .before .before .before .before .before .args .payload .now) ≡ refused (paperFault (c .before .answer2 .given .0 .0))
-refused-is c = sym (c .before .before .before .judge .ensures .answer) ∙ ap paper (c .before .answer2 .given .1)
+refused-is : (c : tie.After-known-told2) → verdict swiss (c .before .before .before .before .before .args .payload .now) ≡ refused (paperFault (c .before .fault .given .0 .0))
+refused-is c = sym (c .before .before .before .verdict .ensures) ∙ ap paper (c .before .fault .given .1)
 
 cast-result : tie.Need-cast-result
 cast-result c =
     let few = line-count _ _ _ (accepted-is c) in
     omega arith
 
-enum-known-answer-2 : tie.Need-enum-known-answer-2
-enum-known-answer-2 c = search needs
+enum-known-fault : tie.Need-enum-known-fault
+enum-known-fault c = search needs
 
 number-of-requires : tie.Need-number-of-requires
 number-of-requires c κs = search needs
 
 mul-result : tie.Need-mul-result
 mul-result c =
-    let low = low-number (c .before .before .answer2 .given .0 .0) in
+    let low = low-number (c .before .before .fault .given .0 .0) in
     omega (arith, c .number-of .ensures)
 
 line-of-requires : tie.Need-line-of-requires
@@ -50,7 +51,7 @@ cast-result-2 c =
 add-result : tie.Need-add-result
 add-result c =
     let low = low-line _ _ (refused-is (c .before .before)) in
-    let number = low-number (c .before .before .before .answer2 .given .0 .0) in
+    let number = low-number (c .before .before .before .fault .given .0 .0) in
     omega (arith, c .line-of .ensures, c .before .number-of .ensures)
 
 returns : tie.Need-returns
@@ -63,10 +64,10 @@ pub qrbill-read-spec : {M : Type 1} → statement M
 qrbill-read-spec =
     tie.close
     (tie.spec
-    judge-requires
-    enum-known-answer
+    verdict-requires
+    enum-known-n
     cast-result
-    enum-known-answer-2
+    enum-known-fault
     number-of-requires
     mul-result
     line-of-requires

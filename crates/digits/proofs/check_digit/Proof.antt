@@ -4,7 +4,7 @@ use native.Mathlib.Omega.{arith}
 use mathlib.Core.Path.{_≡_, refl, _∙_}
 use lib.ListN.{length, getD, drop}
 use borrow.Author.Needs.{needs}
-use Rattle.swiss.specs.Mod10.{carry, checkDigit}
+use Rattle.sieve.specs.Mod10.{carry, checkDigit}
 use Rattle.digits.proofs.Folds.{step, end}
 use Rattle.digits.proofs.Carries.{carries, next-small}
 use Rattle.digits.proofs.check_digit.Statement.{statement}

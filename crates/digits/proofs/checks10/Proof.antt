@@ -5,7 +5,7 @@ use mathlib.Core.Path.{sym}
 use lib.ListN.{length, take, List·getD-eq-default}
 use borrow.Author.Needs.{needs}
 use borrow.Author.Tests.{ne-eqb}
-use Rattle.swiss.specs.Mod10.{checkDigit}
+use Rattle.sieve.specs.Mod10.{checkDigit}
 use Rattle.digits.proofs.checks10.Statement.{statement}
 use Rattle.digits.proofs.checks10.Tie as tie
 

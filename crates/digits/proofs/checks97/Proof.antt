@@ -1,6 +1,6 @@
 -- `digits::checks97` meets its contract, by that of `remainder97`. Assumes nothing.
 use borrow.Author.Needs.{needs}
-use Rattle.swiss.specs.Mod97.{remainder97}
+use Rattle.sieve.specs.Mod97.{remainder97}
 use Rattle.digits.proofs.checks97.Statement.{statement}
 use Rattle.digits.proofs.checks97.Tie as tie
 

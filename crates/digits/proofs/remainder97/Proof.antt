@@ -6,7 +6,7 @@ use lib.ListN.{length, take, drop, length-drop, drop-of-length-le}
 use lib.Seq.{take-all}
 use borrow.Author.Needs.{needs}
 use Rattle.sieve.specs.Bytes.{Bytes}
-use Rattle.swiss.specs.Mod97.{number, remainder97}
+use Rattle.sieve.specs.Mod97.{number, remainder97}
 use Rattle.digits.proofs.Remainders.{carried, appended}
 use Rattle.digits.proofs.remainder97.Statement.{statement}
 use Rattle.digits.proofs.remainder97.Tie as tie
@@ -56,7 +56,9 @@ remainder-after-requires-3 : tie.Need-remainder-after-requires-3
 remainder-after-requires-3 c κs = search needs
 
 returns-2 : tie.Need-returns-2
-returns-2 c = c .remainder-after3 .ensures ∙ moved (c .before .before .before .before .before .before .args .s .now) _ (c .before .before .remainder-after2 .ensures)
+returns-2 c =
+    let at-start = c .before .before .before .before .before .before in
+    c .remainder-after3 .ensures ∙ moved (at-start .args .s .now) _ (c .before .before .remainder-after2 .ensures)
 
 pub remainder97-spec : {M : Type 1} → statement M
 remainder97-spec =

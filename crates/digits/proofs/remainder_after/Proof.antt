@@ -4,7 +4,7 @@ use native.Mathlib.Omega.{arith}
 use mathlib.Core.Path.{_≡_, ap, _∙_}
 use lib.ListN.{length, drop}
 use borrow.Author.Needs.{needs}
-use Rattle.swiss.specs.Mod97.{number}
+use Rattle.sieve.specs.Mod97.{number}
 use Rattle.digits.proofs.Folds.{step, end}
 use Rattle.digits.proofs.Remainders.{numbers, carried}
 use Rattle.digits.proofs.remainder_after.Statement.{statement}

@@ -2,7 +2,7 @@
 use native.Mathlib.Omega.{arith}
 use mathlib.Core.Path.{sym, _∙_}
 use borrow.Author.Needs.{needs}
-use Rattle.digits.proofs.Values.{is-within}
+use Rattle.sieve.proofs.Bounds.{is-within}
 use Rattle.digits.proofs.value.Statement.{statement}
 use Rattle.digits.proofs.value.Tie as tie
 

@@ -3,22 +3,22 @@ use Prim.Native.Nat.{_-_}
 use native.Mathlib.Omega.{arith}
 use mathlib.Core.Path.{_≡_}
 use lib.ListN.{length, length-set}
-use Rattle.lines.specs.Listed.{listedOf, Filled}
+use Rattle.lines.specs.Listed.{capacity, room, listedOf, Filled}
 use Rattle.lines.proofs.Coming.{one-absent, all-listed}
 use Rattle.lines.proofs.list_absent.Statement.{statement}
 use Rattle.lines.proofs.list_absent.Tie as tie
 
 abbrev Inv-loop : tie.InvT-loop
-Inv-loop s n places₀ end i₀ places i = (length places ≡ 68) × Filled s places (length s) (listedOf i)
+Inv-loop s places₀ n end i₀ places i = (length places ≡ room) × Filled s places (length s) (listedOf i)
 
 abbrev μ-loop : tie.MeasureT-loop
-μ-loop s n places₀ end i₀ places i = 34 - i
+μ-loop s places₀ n end i₀ places i = capacity - i
 
 loop-holds : tie.Need-loop-holds Inv-loop μ-loop
-loop-holds c = (c .pre .1, c .pre .2)
+loop-holds c = (c .pre .0 .1, c .pre .1)
 
 cast-places : tie.Need-cast-places Inv-loop μ-loop
-cast-places c = omega (arith, c .before .before .pre .0)
+cast-places c = omega (arith, c .before .before .pre .0 .0)
 
 mul-places : tie.Need-mul-places Inv-loop μ-loop
 mul-places c = omega arith
@@ -26,8 +26,8 @@ mul-places c = omega arith
 mul-places-2 : tie.Need-mul-places-2 Inv-loop μ-loop
 mul-places-2 c = omega arith
 
-array-write-places : tie.Need-array-write-places Inv-loop μ-loop
-array-write-places c = omega arith
+slice-write-places : tie.Need-slice-write-places Inv-loop μ-loop
+slice-write-places c = omega arith
 
 mul-places-3 : tie.Need-mul-places-3 Inv-loop μ-loop
 mul-places-3 c = omega arith
@@ -38,8 +38,8 @@ add-places c = omega arith
 mul-places-4 : tie.Need-mul-places-4 Inv-loop μ-loop
 mul-places-4 c = omega arith
 
-array-write-places-2 : tie.Need-array-write-places-2 Inv-loop μ-loop
-array-write-places-2 c = omega arith
+slice-write-places-2 : tie.Need-slice-write-places-2 Inv-loop μ-loop
+slice-write-places-2 c = simp length-set (omega arith)
 
 add-i : tie.Need-add-i Inv-loop μ-loop
 add-i c = omega arith
@@ -49,6 +49,9 @@ loop-less c = omega arith
 
 loop-again : tie.Need-loop-again Inv-loop μ-loop
 loop-again c = let l = c .before .loop in (simp length-set (l .inv .0), one-absent (c .before .before .args .s .now) (l .places) (l .i) (c .loop-test .taken) (l .inv .0) (l .inv .1))
+
+same-length : tie.Need-same-length Inv-loop μ-loop
+same-length c = omega arith
 
 returns : tie.Need-returns Inv-loop μ-loop
 returns c = let l = c .before .loop in all-listed (c .before .before .args .s .now) (l .places) _ (l .i) (c .loop-test .left) (l .inv .0) (l .inv .1)
@@ -63,12 +66,13 @@ list-absent-spec =
     cast-places
     mul-places
     mul-places-2
-    array-write-places
+    slice-write-places
     mul-places-3
     add-places
     mul-places-4
-    array-write-places-2
+    slice-write-places-2
     add-i
     loop-less
     loop-again
+    same-length
     returns)

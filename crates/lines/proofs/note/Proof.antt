@@ -3,13 +3,14 @@ use Prim.Native.Nat.{_≤_, _<_}
 use native.Mathlib.Omega.{arith}
 use mathlib.Core.Bool.{and-eq-true-iff}
 use lib.ListN.{length-set}
-use borrow.Author.Tests.{ltb-true, leb-true}
+use borrow.Author.Tests.{ltb-true, leb-true, lt-ltb, le-leb}
 use borrow.Author.Needs.{needs}
+use Rattle.lines.specs.Listed.{capacity, greatest}
 use Rattle.lines.proofs.note.Statement.{statement}
 use Rattle.lines.proofs.note.Tie as tie
 
 -- the line is listed, and its numbers have 16 bits
-small : (c : tie.Then1) → let a = c .before .args in (a .n < 34) × ((a .start ≤ 65535) × (a .bytes ≤ 65535))
+small : (c : tie.Then1) → let a = c .before .args in (a .n < capacity) × ((a .start ≤ greatest) × (a .bytes ≤ greatest))
 small c =
     let (p, q) = and-eq-true-iff _ _ .0 (c .if1 .taken) in
     let (i, j) = and-eq-true-iff _ _ .0 p in
@@ -47,7 +48,7 @@ same-length : tie.Need-same-length
 same-length c = search needs
 
 returns : tie.Need-returns
-returns c = rw (c .if1 .taken)
+returns c = let (n, (start, bytes)) = small c in rw (lt-ltb _ _ n, le-leb _ _ start, le-leb _ _ bytes)
 
 returns-2 : tie.Need-returns-2
 returns-2 c = rw (c .if1 .left)

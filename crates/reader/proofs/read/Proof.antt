@@ -1,41 +1,53 @@
 -- `reader::read` meets its contract: what the verdict says of the payload leaves one way for the reading to end. Assumes nothing.
+use native.Mathlib.Omega.{arith}
 use Prim.Native.Nat.{ℕ}
-use mathlib.Core.List.{List, _++_}
-use lib.ListN.{drop}
-use Rattle.judge.specs.Stages.{judgedPlaces}
-use Rattle.swiss.specs.Swiss.{swiss}
-use Rattle.sieve.proofs.ReaderPromises.{refused-unlisted, accepted-no-room, accepted-listed}
+use mathlib.Core.List.{List}
+use mathlib.Core.Path.{_≡_, refl, sym, ap, _∙_}
+use Rattle.sieve.specs.declared.Answer.{Answer}
+use Rattle.sieve.specs.Bytes.{Bytes}
 use Rattle.sieve.specs.Paper.{paper}
-use mathlib.Core.Path.{sym, ap, _∙_}
+use Rattle.sieve.specs.Reading.{Done, readAnswer, IsRead}
+use Rattle.sieve.specs.Verdict.{Verdict}
+use Rattle.sieve.proofs.ReaderPromises.{refused-unlisted, accepted-no-room, accepted-listed}
+use Rattle.swiss.specs.Swiss.{swiss}
+use Rattle.runs.proofs.Lays.{laid-in}
+use Rattle.whole.proofs.Judging.{judged-length}
+use Rattle.swiss_judge.proofs.Places.{all-shown}
 use borrow.Author.Needs.{needs}
 use Rattle.reader.proofs.read.Statement.{statement}
 use Rattle.reader.proofs.read.Tie as tie
 
+-- a reading that ends so
+so : {p : Bytes} {list after : List ℕ} {r : Answer} {d : Done Verdict} → readAnswer swiss p list ≡ d → paper r ≡ d .answer → after ≡ d .lent → IsRead swiss p list r after
+so e a l = record { answer = a ∙ sym (ap (λ d. d .answer) e); lent = l ∙ sym (ap (λ d. d .lent) e) }
+
 judge-requires : tie.Need-judge-requires
 judge-requires c κs = search needs
 
-enum-known-answer : tie.Need-enum-known-answer
-enum-known-answer c = search needs
+enum-known-f : tie.Need-enum-known-f
+enum-known-f c = search needs
 
-enum-known-answer-2 : tie.Need-enum-known-answer-2
-enum-known-answer-2 c = search needs
+enum-known-n : tie.Need-enum-known-n
+enum-known-n c = search needs
 
 returns : tie.Need-returns
 unfolding swiss
 returns c =
-    let e = accepted-no-room swiss (c .before .before .before .before .before .before .before .before .args .payload .now) (c .before .before .before .before .before .before .before .before .args .list .now) _ _ (sym (c .before .before .before .before .before .judge .ensures .answer) ∙ ap paper (c .before .before .answer2 .given .1)) (c .if1 .taken) in
-    record { answer = sym (ap (λ d. d .answer) e); lent = sym (ap (λ d. d .lent) e) }
+    let verdict-is = sym (c .before .before .before .before .judge .ensures .answer) ∙ ap paper (c .before .before .n .given .1) in
+    so (accepted-no-room swiss _ _ _ _ verdict-is (c .if1 .taken)) refl refl
 
 slice-aggregate-fill : tie.Need-slice-aggregate-fill
-slice-aggregate-fill c = search needs
+slice-aggregate-fill c =
+    let at-judge = c .before .before .before .before .before .before in
+    search (needs, sym (judged-length (at-judge .judge .ensures)))
 
 fill-requires : tie.Need-fill-requires
 fill-requires c κs = search needs
 
 returns-2 : tie.Need-returns-2
 returns-2 c =
-    let e = refused-unlisted swiss (c .before .before .before .before .before .before .before .args .payload .now) (c .before .before .before .before .before .before .before .args .list .now) _ (sym (c .before .before .before .before .judge .ensures .answer) ∙ ap paper (c .before .answer .given .1)) in
-    record { answer = sym (ap (λ d. d .answer) e); lent = sym (ap (λ d. d .lent) e) }
+    let verdict-is = sym (c .before .before .before .judge .ensures .answer) ∙ ap paper (c .before .f .given .1) in
+    so (refused-unlisted swiss _ _ _ verdict-is) refl refl
 
 same-length : tie.Need-same-length
 same-length c = search needs
@@ -43,22 +55,21 @@ same-length c = search needs
 returns-3 : tie.Need-returns-3
 unfolding swiss
 returns-3 c =
-    let p = c .before .before .before .before .before .before .before .before .before .before .before .before .before .args .payload .now in
-    let verdict-is = sym (c .before .before .before .before .before .before .before .before .before .before .judge .ensures .answer) ∙ ap paper (c .before .before .before .before .before .before .before .answer2 .given .1) in
-    let e = accepted-listed swiss p (c .before .before .before .before .before .before .before .before .before .before .before .before .before .args .list .now) _ _ verdict-is (c .before .before .before .before .before .if1 .left) in
-    record {
-      answer = sym (ap (λ d. d .answer) e);
-      lent =
-          c .before .before .fill .ensures ∙ ap (λ (t : List ℕ). t ++ drop 68 (c .before .before .before .before .before .before .before .before .before .before .before .before .before .args .list .now)) (c .before .before .before .before .before .before .before .before .before .before .judge .ensures .places ∙ ap (judgedPlaces p) verdict-is) ∙ sym (ap (λ d. d .lent) e);
-    }
+    let at-room = c .before .before .before .before .before in
+    let judged = at-room .before .before .before .before .judge .ensures in
+    let size = judged-length judged in
+    let shown = all-shown (rw (at-room .before .before .n .given .1) at judged) in
+    let verdict-is = sym (judged .answer) ∙ ap paper (at-room .before .before .n .given .1) in
+    let laid = c .before .before .fill .ensures .1 ∙ laid-in _ _ (omega (arith, size, at-room .if1 .left)) in
+    so (accepted-listed swiss _ _ _ _ verdict-is (at-room .if1 .left)) refl (rw (size, shown) at laid)
 
 pub read-spec : {M : Type 1} → statement M
 read-spec =
     tie.close
     (tie.spec
     judge-requires
-    enum-known-answer
-    enum-known-answer-2
+    enum-known-f
+    enum-known-n
     returns
     slice-aggregate-fill
     fill-requires

@@ -5,7 +5,7 @@ use mathlib.Core.Path.{_≡_}
 use lib.ListN.{length, drop}
 use borrow.Author.Needs.{needs}
 use Rattle.runs.proofs.Lays.{tail-room, tail-laid}
-use Rattle.report.proofs.Adding.{front}
+use Rattle.report.proofs.Adding.{added-in-front}
 use Rattle.report.proofs.add.Statement.{statement}
 use Rattle.report.proofs.add.Tie as tie
 
@@ -38,7 +38,7 @@ returns c =
     let a = c .before .before .before .before .before .before in (
       omega (arith, laid-whole c),
       rw (laid-whole c, c .before .before .lay .ensures .1, tail-laid (a .args .at) (a .args .line .now) (a .args .text .now) (a .pre))
-          (front (a .args .at) (a .args .line .now) (a .args .text .now) (drop (a .args .at + length (a .args .text .now)) (a .args .line .now)) (omega (arith, a .pre))),
+          (added-in-front (a .args .at) (a .args .line .now) (a .args .text .now) (drop (a .args .at + length (a .args .text .now)) (a .args .line .now)) (omega (arith, a .pre))),
     )
 
 pub add-spec : {M : Type 1} → statement M

@@ -17,7 +17,10 @@ same-length : tie.Need-same-length
 same-length c = search needs
 
 returns : tie.Need-returns
-returns c = rw (one-digit (c .before .before .before .before .before .before .before .before .args .n) (c .before .before .before .before .before .if1 .taken), ← c .before .before .before .before .before .before .digit .ensures) (c .before .before .add .ensures)
+returns c =
+    let at-digit = c .before .before .before .before .before .before in
+    let at-start = at-digit .before .before in
+    rw (one-digit (at-start .args .n) (c .before .before .before .before .before .if1 .taken), ← at-digit .digit .ensures) (c .before .before .add .ensures)
 
 digit-requires-2 : tie.Need-digit-requires-2
 digit-requires-2 c κs = search needs
@@ -32,7 +35,12 @@ same-length-2 : tie.Need-same-length-2
 same-length-2 c = search needs
 
 returns-2 : tie.Need-returns-2
-returns-2 c = rw (two-digits (c .before .before .before .before .before .before .before .before .before .before .args .n) (c .before .before .before .before .before .before .before .if1 .left) (c .before .before .before .before .before .if2 .taken), ← c .before .before .before .before .before .before .before .before .digit .ensures, ← c .before .before .before .before .before .before .digit2 .ensures) (c .before .before .add2 .ensures)
+returns-2 c =
+    let at-digit-2 = c .before .before .before .before .before .before in
+    let at-if-1 = at-digit-2 .before in
+    let at-digit = at-if-1 .before in
+    let at-start = at-digit .before .before in
+    rw (two-digits (at-start .args .n) (at-if-1 .if1 .left) (c .before .before .before .before .before .if2 .taken), ← at-digit .digit .ensures, ← at-digit-2 .digit2 .ensures) (c .before .before .add2 .ensures)
 
 digit-requires-3 : tie.Need-digit-requires-3
 digit-requires-3 c κs = search needs
@@ -47,7 +55,12 @@ same-length-3 : tie.Need-same-length-3
 same-length-3 c = search needs
 
 returns-3 : tie.Need-returns-3
-returns-3 c = rw (three-digits (c .before .before .before .before .before .before .before .before .before .before .before .args .n) (c .before .before .before .before .before .before .if2 .left) (c .before .before .before .before .before .before .before .before .before .before .before .pre .0), ← c .before .before .before .before .before .before .before .before .before .digit .ensures, ← c .before .before .before .before .before .before .before .digit2 .ensures, ← c .before .before .before .before .digit3 .ensures) (c .before .before .add3 .ensures)
+returns-3 c =
+    let at-if-2 = c .before .before .before .before .before .before in
+    let at-digit-2 = at-if-2 .before in
+    let at-digit = at-digit-2 .before .before in
+    let at-start = at-digit .before .before in
+    rw (three-digits (at-start .args .n) (at-if-2 .if2 .left) (at-start .pre .0), ← at-digit .digit .ensures, ← at-digit-2 .digit2 .ensures, ← c .before .before .before .before .digit3 .ensures) (c .before .before .add3 .ensures)
 
 pub add-number-spec : {M : Type 1} → statement M
 add-number-spec = tie.close (tie.spec digit-requires slice-aggregate-add add-requires same-length returns digit-requires-2 slice-aggregate-add-2 add-requires-2 same-length-2 returns-2 digit-requires-3 slice-aggregate-add-3 add-requires-3 same-length-3 returns-3)

@@ -31,7 +31,11 @@ slice-aggregate-add-2 : tie.Need-slice-aggregate-add-2
 slice-aggregate-add-2 c = search needs
 
 add-requires-2 : tie.Need-add-requires-2
-add-requires-2 c κs = omega (arith, c .before .before .before .before .before .before .add-number .ensures .0, c .before .before .before .before .before .before .before .before .before .before .add .ensures .0, few-digits (c .before .before .before .before .before .before .before .before .before .before .before .before .before .before .args .n) (c .before .before .before .before .before .before .before .before .before .before .before .before .before .before .pre .0), c .before .before .before .before .before .before .before .before .before .before .before .before .before .before .pre .1)
+add-requires-2 c κs =
+    let at-add-number = c .before .before .before .before .before .before in
+    let at-add = at-add-number .before .before .before .before in
+    let at-start = at-add .before .before .before .before in
+    omega (arith, at-add-number .add-number .ensures .0, at-add .add .ensures .0, few-digits (at-start .args .n) (at-start .pre .0), at-start .pre .1)
 
 enum-told-2 : tie.Need-enum-told-2
 enum-told-2 c = search needs
@@ -40,7 +44,11 @@ slice-aggregate-add-3 : tie.Need-slice-aggregate-add-3
 slice-aggregate-add-3 c = search needs
 
 add-requires-3 : tie.Need-add-requires-3
-add-requires-3 c κs = omega (arith, c .before .before .before .before .before .before .add-number .ensures .0, c .before .before .before .before .before .before .before .before .before .before .add .ensures .0, few-digits (c .before .before .before .before .before .before .before .before .before .before .before .before .before .before .args .n) (c .before .before .before .before .before .before .before .before .before .before .before .before .before .before .pre .0), c .before .before .before .before .before .before .before .before .before .before .before .before .before .before .pre .1)
+add-requires-3 c κs =
+    let at-add-number = c .before .before .before .before .before .before in
+    let at-add = at-add-number .before .before .before .before in
+    let at-start = at-add .before .before .before .before in
+    omega (arith, at-add-number .add-number .ensures .0, at-add .add .ensures .0, few-digits (at-start .args .n) (at-start .pre .0), at-start .pre .1)
 
 same-length : tie.Need-same-length
 same-length c = search needs

@@ -31,12 +31,15 @@ slice-aggregate-add-2 c = search needs
 -- a number of at most three digits is said
 upto-number : (c : tie.After-slice-known3) → c .before .before .add-number .result ≤ 11
 upto-number c =
+    let at-add = c .before .before .before .before .before .before .before in
     let n = c .before .before .before .number-of in
     let a = c .before .before .before .before .before .before .before .before .before .before .before in
-    omega (arith, c .before .before .add-number .ensures .0, c .before .before .before .before .before .before .before .add .ensures .0, few-digits (n .result) (rw (n .ensures) (a .pre .0 .0)))
+    omega (arith, c .before .before .add-number .ensures .0, at-add .add .ensures .0, few-digits (n .result) (rw (n .ensures) (a .pre .0 .0)))
 
 add-requires-2 : tie.Need-add-requires-2
-add-requires-2 c κs = omega (arith, upto-number (c .before .before), c .before .before .before .before .before .before .before .before .before .before .before .before .before .pre .1)
+add-requires-2 c κs =
+    let at-start = c .before .before .before .before .before .before .before .before .before .before .before .before .before in
+    omega (arith, upto-number (c .before .before), at-start .pre .1)
 
 upto-line : (c : tie.After-slice-known4) → c .before .before .add2 .result ≤ 17
 upto-line c = omega (arith, c .before .before .add2 .ensures .0, upto-number (c .before .before .before .before .before))
@@ -45,13 +48,17 @@ line-of-requires : tie.Need-line-of-requires
 line-of-requires c κs = search needs
 
 add-number-requires-2 : tie.Need-add-number-requires-2
-add-number-requires-2 c κs = (rw (c .line-of .ensures) (c .before .before .before .before .before .before .before .before .before .before .before .before .before .before .before .before .before .before .pre .0 .1), omega (arith, upto-line (c .before .before), c .before .before .before .before .before .before .before .before .before .before .before .before .before .before .before .before .before .before .pre .1))
+add-number-requires-2 c κs =
+    let at-start = c .before .before .before .before .before .before .before .before .before .before .before .before .before .before .before .before .before .before in
+    (rw (c .line-of .ensures) (at-start .pre .0 .1), omega (arith, upto-line (c .before .before), at-start .pre .1))
 
 slice-aggregate-add-3 : tie.Need-slice-aggregate-add-3
 slice-aggregate-add-3 c = search needs
 
 add-requires-3 : tie.Need-add-requires-3
-add-requires-3 c κs = omega (arith, upto-line (c .before .before .before .before .before .before .before), c .before .before .before .before .add-number2 .ensures .0, few-digits (c .before .before .before .before .before .line-of .result) (rw (c .before .before .before .before .before .line-of .ensures) (c .before .before .before .before .before .before .before .before .before .before .before .before .before .before .before .before .before .before .before .before .before .before .before .pre .0 .1)), c .before .before .before .before .before .before .before .before .before .before .before .before .before .before .before .before .before .before .before .before .before .before .before .pre .1)
+add-requires-3 c κs =
+    let at-start = c .before .before .before .before .before .before .before .before .before .before .before .before .before .before .before .before .before .before .before .before .before .before .before in
+    omega (arith, upto-line (c .before .before .before .before .before .before .before), c .before .before .before .before .add-number2 .ensures .0, few-digits (c .before .before .before .before .before .line-of .result) (rw (c .before .before .before .before .before .line-of .ensures) (at-start .pre .0 .1)), at-start .pre .1)
 
 same-length : tie.Need-same-length
 same-length c = search needs
@@ -63,11 +70,17 @@ five a b c d e = append-assoc ((a ++ b) ++ c) d e ∙ append-assoc (a ++ b) c (d
 returns : tie.Need-returns
 unfolding spoken
 returns c =
-    let line = c .before .before .before .before .before .before .before .before .line-of in
-    let number = c .before .before .before .before .before .before .before .before .before .before .before .before .before .before .before .before .before .before .number-of in
+    let at-add-number-2 = c .before .before .before .before .before .before .before in
+    let at-line-of = at-add-number-2 .before in
+    let at-add-2 = at-line-of .before .before .before .before in
+    let at-add-number = at-add-2 .before .before .before .before .before in
+    let at-number-of = at-add-number .before in
+    let at-add = at-number-of .before .before .before .before in
+    let line = at-line-of .line-of in
+    let number = at-number-of .number-of in
     let a = c .before .before .before .before .before .before .before .before .before .before .before .before .before .before .before .before .before .before .before .before .before .before .before .before .before .before in
-    let s = more lineEnd (more (decimal (line .result)) (more (ascii " line ") (more (decimal (number .result)) (begun (ascii "refused ") (c .before .before .before .before .before .before .before .before .before .before .before .before .before .before .before .before .before .before .before .before .before .before .add .ensures)) (c .before .before .before .before .before .before .before .before .before .before .before .before .before .before .before .before .before .add-number .ensures)) (c .before .before .before .before .before .before .before .before .before .before .before .before .add2 .ensures)) (c .before .before .before .before .before .before .before .add-number2 .ensures)) (c .before .before .add3 .ensures) in (
-      omega (arith, c .before .before .add3 .ensures .0, c .before .before .before .before .before .before .before .add-number2 .ensures .0, upto-line (c .before .before .before .before .before .before .before .before .before .before), few-digits (line .result) (rw (line .ensures) (a .pre .0 .1))),
+    let s = more lineEnd (more (decimal (line .result)) (more (ascii " line ") (more (decimal (number .result)) (begun (ascii "refused ") (at-add .add .ensures)) (at-add-number .add-number .ensures)) (at-add-2 .add2 .ensures)) (at-add-number-2 .add-number2 .ensures)) (c .before .before .add3 .ensures) in (
+      omega (arith, c .before .before .add3 .ensures .0, at-add-number-2 .add-number2 .ensures .0, upto-line (c .before .before .before .before .before .before .before .before .before .before), few-digits (line .result) (rw (line .ensures) (a .pre .0 .1))),
       s .text ∙ five (ascii "refused ") (decimal (number .result)) (ascii " line ") (decimal (line .result)) lineEnd ∙ rw (line .ensures, number .ensures),
     )
 

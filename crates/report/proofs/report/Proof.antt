@@ -2,34 +2,25 @@
 use Prim.Native.Nat.{_-_}
 use native.Mathlib.Nat.{sub-zero}
 use native.Mathlib.Omega.{arith}
-use mathlib.Core.Path.{_≡_, refl, sym, ap, _∙_}
+use mathlib.Core.Path.{_≡_, refl, ap, _∙_}
 use lib.ListN.{take}
-use Rattle.sieve.specs.declared.Answer.{Answer}
-use Rattle.sieve.specs.declared.Answer.the-variants.{Accepted, Refused}
-use Rattle.sieve.specs.Bytes.{Bytes}
-use Rattle.sieve.specs.Paper.{paper, paperFault}
 use Rattle.sieve.specs.Verdict.{verdict}
 use Rattle.swiss.specs.Swiss.{swiss}
 use Rattle.runs.proofs.Lays.{room-fits}
-use Rattle.judge.proofs.Numbers.{low-line, low-number, line-count}
-use Rattle.report.specs.Spoken.{Short, spoken}
+use Rattle.report.specs.Spoken.{spoken}
+use Rattle.report.proofs.Promise.{short}
 use borrow.Author.Needs.{needs}
 use Rattle.report.proofs.report.Statement.{statement}
 use Rattle.report.proofs.report.Tie as tie
 
-judge-requires : tie.Need-judge-requires
-judge-requires c κs = search needs
+verdict-requires : tie.Need-verdict-requires
+verdict-requires c κs = search needs
 
 slice-aggregate-compose : tie.Need-slice-aggregate-compose
 slice-aggregate-compose c = search needs
 
--- what the verdict names is below 1000
-short : (p : Bytes) (r : Answer) → paper r ≡ verdict swiss p → Short (paper r)
-short p (Accepted n k) e = let few = line-count p n k (sym e) in omega arith
-short p (Refused f) e = (omega (arith, low-number f), low-line p (paperFault f) (sym e))
-
 compose-requires : tie.Need-compose-requires
-compose-requires c κs = (short (c .before .before .before .before .args .payload .now) (c .before .judge .result .answer) (c .before .judge .ensures .answer), refl)
+compose-requires c κs = (short (c .before .before .before .before .args .payload .now) (c .before .verdict .result) (c .before .verdict .ensures), refl)
 
 sub-lay : tie.Need-sub-lay
 sub-lay c = search needs
@@ -48,10 +39,13 @@ same-length c = search needs
 
 returns : tie.Need-returns
 returns c =
-    let f = c .before .before .before .before .before .before .before .compose in
-    let said : take (f .result - 0) (f .last .0) ≡ spoken (verdict swiss (c .before .before .before .before .before .before .before .before .before .before .before .before .args .payload .now)) = rw (sub-zero (f .result)) (f .ensures .1 ∙ ap spoken (c .before .before .before .before .before .before .before .before .before .judge .ensures .answer)) in
+    let at-compose = c .before .before .before .before .before .before .before in
+    let at-verdict = at-compose .before .before in
+    let at-start = at-verdict .before .before .before in
+    let f = at-compose .compose in
+    let said : take (f .result - 0) (f .last .0) ≡ spoken (verdict swiss (at-start .args .payload .now)) = rw (sub-zero (f .result)) (f .ensures .1 ∙ ap spoken (at-verdict .verdict .ensures)) in
     let l = c .before .before .lay in
-    rw (← said) (l .ensures .0, (l .ensures .1, omega (arith, l .ensures .0, room-fits (c .before .before .before .before .before .before .before .before .before .before .before .before .args .dest .now) (take (f .result - 0) (f .last .0)))))
+    rw (← said) (l .ensures .0, (l .ensures .1, omega (arith, l .ensures .0, room-fits (at-start .args .dest .now) (take (f .result - 0) (f .last .0)))))
 
 pub report-spec : {M : Type 1} → statement M
-report-spec = tie.close (tie.spec judge-requires slice-aggregate-compose compose-requires sub-lay part-lay-start part-lay-end lay-requires same-length returns)
+report-spec = tie.close (tie.spec verdict-requires slice-aggregate-compose compose-requires sub-lay part-lay-start part-lay-end lay-requires same-length returns)

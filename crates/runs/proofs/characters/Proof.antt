@@ -6,7 +6,8 @@ use borrow.Author.Needs.{needs}
 use lib.ListN.{length, getD, drop, drop-of-length-le}
 use Rattle.sieve.specs.Bytes.{within}
 use Rattle.sieve.specs.Characters.{characters}
-use Rattle.runs.proofs.ByteByByte.{next, at-most}
+use Rattle.sieve.proofs.Bounds.{case-at-most}
+use Rattle.runs.proofs.ByteByByte.{next}
 use Rattle.runs.proofs.characters.Statement.{statement}
 use Rattle.runs.proofs.characters.Tie as tie
 
@@ -28,7 +29,7 @@ character-count-requires c κs = search needs
 one : (c : tie.After-character-count Inv-loop μ-loop) → c .character-count .result ≤ 1
 one c =
     let l = c .before .before .before in
-    omega (arith, at-most 1 (within 0x80 0xBF (getD (l .before .before .args .s .now) (l .loop .i) 0)) 0 1 (omega arith) (omega arith))
+    omega (arith, case-at-most 1 (within 0x80 0xBF (getD (l .before .before .args .s .now) (l .loop .i) 0)) {x = 0} {y = 1} (λ e. omega arith) (omega arith))
 
 add-n : tie.Need-add-n Inv-loop μ-loop
 add-n c = omega (arith, one c)

@@ -5,7 +5,7 @@ use mathlib.Core.Path.{_≡_, refl, sym, ap, _∙_}
 use borrow.Author.Needs.{needs}
 use lib.ListN.{length, drop, drop-of-length-le}
 use Rattle.sieve.specs.Bytes.{every}
-use Rattle.runs.specs.Kinds.{ofKind}
+use Rattle.runs.specs.CharacterKinds.{ofKind}
 use Rattle.runs.proofs.ByteByByte.{next}
 use Rattle.runs.proofs.every.Statement.{statement}
 use Rattle.runs.proofs.every.Tie as tie

@@ -19,7 +19,7 @@ abbrev μ-loop : tie.MeasureT-loop
 μ-loop a b i₀ i = length a - i
 
 returns : tie.Need-returns Inv-loop μ-loop
-returns c = sym (same-length (c .before .args .a .now) (c .before .args .b .now) (c .if1 .taken))
+returns c = sym (same-length (c .before .args .a .now) (c .before .args .b .now) (λ e. omega (arith, c .if1 .taken)))
 
 loop-holds : tie.Need-loop-holds Inv-loop μ-loop
 loop-holds c = refl
@@ -38,7 +38,11 @@ shared-slice-read-if2-2 : tie.Need-shared-slice-read-if2-2 Inv-loop μ-loop
 shared-slice-read-if2-2 c = search needs
 
 returns-2 : tie.Need-returns-2 Inv-loop μ-loop
-returns-2 c = sym (rw (ne-eqb _ _ (c .if2 .taken)) at (step (c .before .before .before)))
+returns-2 c =
+    let turn = c .before .before .before in
+    let a = turn .before .before .before .args in
+    let i = turn .before .loop .i in
+    sym (rw (ne-eqb (getD (a .a .now) i 0) (getD (a .b .now) i 0) (λ e. omega (arith, c .if2 .taken))) at (step turn))
 
 add-i : tie.Need-add-i Inv-loop μ-loop
 add-i c = search needs

@@ -3,7 +3,7 @@ use Prim.Native.Nat.{suc, _-_}
 use native.Mathlib.Omega.{arith}
 use mathlib.Core.Path.{_≡_, refl, _∙_}
 use borrow.Author.Needs.{needs}
-use lib.ListN.{length, getD}
+use lib.ListN.{getD}
 use Rattle.text.specs.LinesIn.{linesIn, linesAt, lineOf}
 use Rattle.text.proofs.LinesLie.{absent, this-line, past-last, after-this}
 use Rattle.text.proofs.line_place.Statement.{statement}
@@ -22,8 +22,8 @@ loop-holds c = refl
 line-at-requires : tie.Need-line-at-requires Inv-loop μ-loop
 line-at-requires c κs = search needs
 
-sub-length : tie.Need-sub-length Inv-loop μ-loop
-sub-length c = omega (arith, c .before .line-at .ensures .end)
+sub-bytes : tie.Need-sub-bytes Inv-loop μ-loop
+sub-bytes c = omega (arith, c .before .line-at .ensures .end)
 
 returns : tie.Need-returns Inv-loop μ-loop
 returns c =
@@ -44,7 +44,7 @@ returns-2 c =
     let l = c .before .before .before in
     let f = c .before .before .line-at in
     let e = more (c .before) ∙ past-last (l .before .before .args .s .now) (l .loop .at) (f .result) (f .ensures) (c .if2 .taken) _ in
-    record { start = rw e; length = rw e }
+    record { start = rw e; bytes = rw e }
 
 sub-left : tie.Need-sub-left Inv-loop μ-loop
 sub-left c = search needs
@@ -66,7 +66,7 @@ line-place-spec =
     μ-loop
     loop-holds
     line-at-requires
-    sub-length
+    sub-bytes
     returns
     returns-2
     sub-left

@@ -3,8 +3,8 @@ use borrow.Author.Needs.{needs}
 use mathlib.Core.Bool.{cond}
 use mathlib.Core.Path.{_≡_}
 use lib.ListN.{drop}
-use Rattle.swiss.specs.Latin.{latin}
-use Rattle.swiss.proofs.Latin.{low}
+use Rattle.sieve.specs.Latin.{latin}
+use Rattle.sieve.proofs.Latin.{low}
 use Rattle.text.proofs.width.Statement.{statement}
 use Rattle.text.proofs.width.Tie as tie
 

@@ -1,78 +1,53 @@
--- `text_cases::write_answers` is safe and ends. The invariant: the next record starts within the input. Assumes nothing.
-use Prim.Native.Nat.{_-_, _≤_}
+-- `text_cases::write_answers` is safe and ends: each record that is there ends behind its place. Assumes nothing.
+use Prim.Native.Nat.{_-_}
 use lib.ListN.{length}
 use borrow.Author.Needs.{needs}
+use Rattle.records.proofs.RecordsLie.{Lies, lies}
 use Rattle.text_cases.proofs.write_answers.Statement.{statement}
 use Rattle.text_cases.proofs.write_answers.Tie as tie
 
 abbrev Inv-loop : tie.InvT-loop
-Inv-loop input at₀ at = at ≤ length input
+Inv-loop input at₀ at = Unit
 
 abbrev μ-loop : tie.MeasureT-loop
 μ-loop input at₀ at = length input - at
 
+-- the record that was found
+found : (c : tie.After-start Inv-loop μ-loop) → let l = c .before .before .before in Lies (l .before .before .args .input .now) (l .loop .at) (c .start .given .0 .0) (c .start .given .0 .1 .0)
+found c = lies (c .before .before .record-at .ensures) (c .start .given .1)
+
 loop-holds : tie.Need-loop-holds Inv-loop μ-loop
 loop-holds c = search needs
 
-sub-if1 : tie.Need-sub-if1 Inv-loop μ-loop
-sub-if1 c = search needs
+record-at-requires : tie.Need-record-at-requires Inv-loop μ-loop
+record-at-requires c κs = search needs
 
-returns : tie.Need-returns Inv-loop μ-loop
-returns c = search needs
-
-shared-slice-read-wide : tie.Need-shared-slice-read-wide Inv-loop μ-loop
-shared-slice-read-wide c = search needs
-
-wide-requires : tie.Need-wide-requires Inv-loop μ-loop
-wide-requires c κs = search needs
-
-add-wide : tie.Need-add-wide Inv-loop μ-loop
-add-wide c = search needs
-
-shared-slice-read-wide-2 : tie.Need-shared-slice-read-wide-2 Inv-loop μ-loop
-shared-slice-read-wide-2 c = search needs
-
-wide-requires-2 : tie.Need-wide-requires-2 Inv-loop μ-loop
-wide-requires-2 c κs = search needs
-
-mul-length : tie.Need-mul-length Inv-loop μ-loop
-mul-length c = search needs
-
-add-length : tie.Need-add-length Inv-loop μ-loop
-add-length c = search needs
-
-add-start : tie.Need-add-start Inv-loop μ-loop
-add-start c = search needs
-
-sub-if2 : tie.Need-sub-if2 Inv-loop μ-loop
-sub-if2 c = search needs
-
-returns-2 : tie.Need-returns-2 Inv-loop μ-loop
-returns-2 c = search needs
-
-add-end : tie.Need-add-end Inv-loop μ-loop
-add-end c = search needs
+enum-known-start : tie.Need-enum-known-start Inv-loop μ-loop
+enum-known-start c = search needs
 
 sub-write-answer : tie.Need-sub-write-answer Inv-loop μ-loop
-sub-write-answer c = search needs
+sub-write-answer c = let h = found (c .before) in search needs
 
 part-write-answer-start : tie.Need-part-write-answer-start Inv-loop μ-loop
-part-write-answer-start c = search needs
+part-write-answer-start c = let h = found (c .before) in search needs
 
 part-write-answer-end : tie.Need-part-write-answer-end Inv-loop μ-loop
-part-write-answer-end c = search needs
+part-write-answer-end c = let h = found (c .before) in search needs
 
 write-answer-requires : tie.Need-write-answer-requires Inv-loop μ-loop
 write-answer-requires c κs = search needs
 
 loop-less : tie.Need-loop-less Inv-loop μ-loop
-loop-less c = search needs
+loop-less c = let h = found (c .before .before .before) in search needs
 
 loop-again : tie.Need-loop-again Inv-loop μ-loop
 loop-again c = search needs
 
-returns-3 : tie.Need-returns-3 Inv-loop μ-loop
-returns-3 c = search needs
+enum-told : tie.Need-enum-told Inv-loop μ-loop
+enum-told c = search needs
+
+returns : tie.Need-returns Inv-loop μ-loop
+returns c = search needs
 
 pub write-answers-spec : {M : Type 1} → statement M
 write-answers-spec =
@@ -81,23 +56,13 @@ write-answers-spec =
     Inv-loop
     μ-loop
     loop-holds
-    sub-if1
-    returns
-    shared-slice-read-wide
-    wide-requires
-    add-wide
-    shared-slice-read-wide-2
-    wide-requires-2
-    mul-length
-    add-length
-    add-start
-    sub-if2
-    returns-2
-    add-end
+    record-at-requires
+    enum-known-start
     sub-write-answer
     part-write-answer-start
     part-write-answer-end
     write-answer-requires
     loop-less
     loop-again
-    returns-3)
+    enum-told
+    returns)

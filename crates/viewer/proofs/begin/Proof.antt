@@ -10,24 +10,24 @@ use Rattle.viewer.proofs.begin.Tie as tie
 add-past : tie.Need-add-past
 add-past c = search needs
 
-judge-requires : tie.Need-judge-requires
-judge-requires c κs = search needs
+verdict-requires : tie.Need-verdict-requires
+verdict-requires c κs = search needs
 
-enum-known-answer : tie.Need-enum-known-answer
-enum-known-answer c = search needs
+enum-known-n : tie.Need-enum-known-n
+enum-known-n c = search needs
 
-enum-known-answer-2 : tie.Need-enum-known-answer-2
-enum-known-answer-2 c = search needs
+enum-known-f : tie.Need-enum-known-f
+enum-known-f c = search needs
 
 returns : tie.Need-returns
 returns c =
-    let is : verdict swiss (c .before .before .before .before .before .args .payload .now) ≡ accepted (c .before .answer .given .0 .0) (c .before .answer .given .0 .1 .0) = sym (c .before .before .before .judge .ensures .answer) ∙ ap paper (c .before .answer .given .1) in
+    let is : verdict swiss (c .before .before .before .before .before .args .payload .now) ≡ accepted (c .before .n .given .0 .0) (c .before .n .given .0 .1 .0) = sym (c .before .before .before .verdict .ensures) ∙ ap paper (c .before .n .given .1) in
     record { at = rw is; answer = rw is }
 
 returns-2 : tie.Need-returns-2
 returns-2 c =
-    let is : verdict swiss (c .before .before .before .before .before .args .payload .now) ≡ refused (paperFault (c .before .answer2 .given .0 .0)) = sym (c .before .before .before .judge .ensures .answer) ∙ ap paper (c .before .answer2 .given .1) in
+    let is : verdict swiss (c .before .before .before .before .before .args .payload .now) ≡ refused (paperFault (c .before .f .given .0 .0)) = sym (c .before .before .before .verdict .ensures) ∙ ap paper (c .before .f .given .1) in
     record { at = rw is; answer = rw is }
 
 pub begin-spec : {M : Type 1} → statement M
-begin-spec = tie.close (tie.spec add-past judge-requires enum-known-answer enum-known-answer-2 returns returns-2)
+begin-spec = tie.close (tie.spec add-past verdict-requires enum-known-n enum-known-f returns returns-2)

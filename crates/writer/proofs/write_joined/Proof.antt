@@ -1,11 +1,13 @@
 -- `writer::write_joined` meets its contract: the verdict on the joined bytes, which lie in a buffer. Assumes nothing.
-use Rattle.writer.specs.Writing.{bytes}
-use Rattle.swiss.specs.Swiss.{swiss}
+use mathlib.Core.Path.{_≡_, sym, ap, _∙_}
+use borrow.Author.Needs.{needs}
 use Rattle.sieve.specs.Verdict.{accepted, verdict}
 use Rattle.sieve.specs.Paper.{paper}
-use mathlib.Core.Path.{_≡_, sym, ap, _∙_}
-use Rattle.writer.proofs.Writing.{laid-front, reader-refuses, read-otherwise, reader-accepts}
-use borrow.Author.Needs.{needs}
+use Rattle.swiss.specs.Swiss.{swiss}
+use Rattle.joining.specs.Handing.{bytesOf}
+use Rattle.joining.proofs.Laying.{laid-front}
+use Rattle.joining.proofs.Stages.{reader-refuses, read-otherwise, reader-accepts}
+use Rattle.writer.proofs.Suits.{suits}
 use Rattle.writer.proofs.write_joined.Statement.{statement}
 use Rattle.writer.proofs.write_joined.Tie as tie
 
@@ -13,36 +15,40 @@ slice-aggregate-lay-lines : tie.Need-slice-aggregate-lay-lines
 slice-aggregate-lay-lines c = search needs
 
 lay-lines-requires : tie.Need-lay-lines-requires
+unfolding swiss
 lay-lines-requires c κs = search needs
 
-sub-judge : tie.Need-sub-judge
-sub-judge c = search needs
+sub-verdict : tie.Need-sub-verdict
+sub-verdict c = search needs
 
-part-judge-start : tie.Need-part-judge-start
-part-judge-start c = search needs
+part-verdict-start : tie.Need-part-verdict-start
+part-verdict-start c = search needs
 
-part-judge-end : tie.Need-part-judge-end
-part-judge-end c = search needs
+part-verdict-end : tie.Need-part-verdict-end
+unfolding swiss
+part-verdict-end c = search needs
 
-judge-requires : tie.Need-judge-requires
-judge-requires c κs = search needs
+verdict-requires : tie.Need-verdict-requires
+verdict-requires c κs = search needs
 
 -- the verdict is that on the joined bytes, which lie in the front of the buffer
-judged-bytes : (c : tie.After-judge) → let a = c .before .before .before .before .before .before .before .before .before .args in paper (c .judge .result .answer) ≡ verdict swiss (bytes (a .text .now) (a .list .now) (a .count) (a .k) (a .dest .now))
-judged-bytes c = c .judge .ensures .answer ∙ ap (verdict swiss) (laid-front _ _ _ _ (c .before .before .before .before .before .before .before .before .before .pre .bytes-are) (c .before .before .before .before .lay-lines .ensures))
+judged : (c : tie.After-verdict)
+    → let start = c .before .before .before .before .before .before .before .before .before in let a = start .args in
+    paper (c .verdict .result) ≡ verdict swiss (bytesOf (a .text .now) (a .list .now) (a .count) (a .k))
+judged c =
+    let laid = c .before .before .before .before in
+    let start = laid .before .before .before .before .before in
+    let a = start .args in
+    c .verdict .ensures ∙ ap (verdict swiss) (laid-front (bytesOf (a .text .now) (a .list .now) (a .count) (a .k)) _ _ _ (start .pre .bytes-are) (laid .lay-lines .ensures))
 
--- the count and the break that were read, where it accepts
-read-bytes : (c : tie.After-break-length2) → let a = c .before .before .before .before .before .before .before .before .before .before .before .before .before .before .args in verdict swiss (bytes (a .text .now) (a .list .now) (a .count) (a .k) (a .dest .now)) ≡ accepted (c .before .before .before .answer2 .given .0 .0) (c .before .before .before .answer2 .given .0 .1 .0)
-read-bytes c = sym (judged-bytes (c .before .before .before .before .before)) ∙ ap paper (c .before .before .before .answer2 .given .1)
-
-enum-known-answer : tie.Need-enum-known-answer
-enum-known-answer c = search needs
+enum-known-f : tie.Need-enum-known-f
+enum-known-f c = search needs
 
 refuse-requires : tie.Need-refuse-requires
 refuse-requires c κs = search needs
 
-enum-known-answer-2 : tie.Need-enum-known-answer-2
-enum-known-answer-2 c = search needs
+enum-known-read : tie.Need-enum-known-read
+enum-known-read c = search needs
 
 break-length-requires : tie.Need-break-length-requires
 break-length-requires c κs = search needs
@@ -50,20 +56,28 @@ break-length-requires c κs = search needs
 break-length-requires-2 : tie.Need-break-length-requires-2
 break-length-requires-2 c κs = search needs
 
+-- the count and the break that were read, where it accepts
+accepts : (c : tie.After-break-length2)
+    → let known = c .before .before .before in let start = known .before .before .before .before .before .before .before .before .before .before .before in let a = start .args in
+    verdict swiss (bytesOf (a .text .now) (a .list .now) (a .count) (a .k)) ≡ accepted (known .read .given .0 .0) (known .read .given .0 .1 .0)
+accepts c =
+    let known = c .before .before .before in
+    sym (judged (known .before .before)) ∙ ap paper (known .read .given .1)
+
 write-accepted-requires : tie.Need-write-accepted-requires
 write-accepted-requires c κs =
-    let s = c .before .before .before .before .before .before .before .before .before .before .before .before .before .before .before .before in
-    let a = s .args in
-    reader-accepts (a .text .now) (a .list .now) (a .count) (a .k) (a .dest .now) _ _ _ (s .pre) (read-bytes (c .before .before)) (rw (c .before .before .before .break-length .ensures, c .before .before .break-length2 .ensures) at (c .before .if1 .taken))
+    let read = c .before .before in
+    let start = read .before .before .before .before .before .before .before .before .before .before .before .before .before .before in
+    reader-accepts suits _ _ _ (start .pre) (accepts read) (rw (read .before .break-length .ensures, read .break-length2 .ensures) at (c .before .if1 .taken))
 
 refuse-requires-2 : tie.Need-refuse-requires-2
 refuse-requires-2 c κs = search needs
 
 returns : tie.Need-returns
 returns c =
-    let s = c .before .before .before .before .before .before .before .before .before .before .before .before .before in
-    let a = s .args in
-    reader-refuses (a .text .now) (a .list .now) (a .count) (a .k) (a .dest .now) _ (s .pre .in-text) (sym (judged-bytes (c .before .before .before .before)) ∙ ap paper (c .before .before .answer .given .1)) _ (c .refuse .ensures)
+    let known = c .before .before in
+    let start = known .before .before .before .before .before .before .before .before .before .before .before in
+    reader-refuses _ (start .pre .in-text) (sym (judged (known .before .before)) ∙ ap paper (known .f .given .1)) _ (c .refuse .ensures)
 
 same-length : tie.Need-same-length
 same-length c = search needs
@@ -73,9 +87,9 @@ returns-2 c = search needs
 
 returns-3 : tie.Need-returns-3
 returns-3 c =
-    let s = c .before .before .before .before .before .before .before .before .before .before .before .before .before .before .before .before in
-    let a = s .args in
-    read-otherwise (a .text .now) (a .list .now) (a .count) (a .k) (a .dest .now) _ _ _ (s .pre .in-text) (read-bytes (c .before .before)) (rw (c .before .before .before .break-length .ensures, c .before .before .break-length2 .ensures) at (c .before .if1 .left)) _ (c .refuse2 .ensures)
+    let read = c .before .before in
+    let start = read .before .before .before .before .before .before .before .before .before .before .before .before .before .before in
+    read-otherwise suits _ _ _ (start .pre .in-text) (accepts read) (rw (read .before .break-length .ensures, read .break-length2 .ensures) at (c .before .if1 .left)) _ (c .refuse2 .ensures)
 
 pub write-joined-spec : {M : Type 1} → statement M
 write-joined-spec =
@@ -83,13 +97,13 @@ write-joined-spec =
     (tie.spec
     slice-aggregate-lay-lines
     lay-lines-requires
-    sub-judge
-    part-judge-start
-    part-judge-end
-    judge-requires
-    enum-known-answer
+    sub-verdict
+    part-verdict-start
+    part-verdict-end
+    verdict-requires
+    enum-known-f
     refuse-requires
-    enum-known-answer-2
+    enum-known-read
     break-length-requires
     break-length-requires-2
     write-accepted-requires

@@ -1,6 +1,7 @@
 -- `writer::write_lines` meets its contract: too many bytes are refused, else the joined length is known. Assumes nothing.
-use Rattle.writer.proofs.Writing.{too-many-bytes}
 use borrow.Author.Needs.{needs}
+use Rattle.swiss.specs.Swiss.{swiss}
+use Rattle.joining.proofs.Stages.{too-many-bytes}
 use Rattle.writer.proofs.write_lines.Statement.{statement}
 use Rattle.writer.proofs.write_lines.Tie as tie
 
@@ -11,12 +12,13 @@ refuse-requires : tie.Need-refuse-requires
 refuse-requires c κs = search needs
 
 returns : tie.Need-returns
+unfolding swiss
 returns c =
-    let s = c .before .before .before .before .before .before in
-    let a = s .args in
-    too-many-bytes (a .text .now) (a .list .now) (a .count) (a .k) (a .dest .now) _ (s .pre) (c .before .before .joined-length .ensures) (c .before .if1 .taken) _ (c .refuse .ensures)
+    let start = c .before .before .before .before .before .before in
+    too-many-bytes _ (start .pre) (c .before .before .joined-length .ensures) (c .before .if1 .taken) _ (c .refuse .ensures)
 
 write-joined-requires : tie.Need-write-joined-requires
+unfolding swiss
 write-joined-requires c κs = search needs
 
 same-length : tie.Need-same-length

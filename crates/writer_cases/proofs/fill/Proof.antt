@@ -1,5 +1,5 @@
--- `writer_cases::fill` is safe and ends. The invariant: the next number starts within the bytes. Assumes nothing.
-use Prim.Native.Nat.{_-_, _≤_}
+-- `writer_cases::fill` is safe and ends. Assumes nothing.
+use Prim.Native.Nat.{_-_}
 use mathlib.Core.Path.{_≡_}
 use lib.ListN.{length}
 use borrow.Author.Needs.{needs}
@@ -7,22 +7,16 @@ use Rattle.writer_cases.proofs.fill.Statement.{statement}
 use Rattle.writer_cases.proofs.fill.Tie as tie
 
 abbrev Inv-loop : tie.InvT-loop
-Inv-loop list₀ bytes i₀ at₀ list i at = (at ≤ length bytes) × (length list ≡ length list₀)
+Inv-loop list₀ bytes i₀ list i = length list ≡ length list₀
 
 abbrev μ-loop : tie.MeasureT-loop
-μ-loop list₀ bytes i₀ at₀ list i at = length list₀ - i
+μ-loop list₀ bytes i₀ list i = length list₀ - i
 
 loop-holds : tie.Need-loop-holds Inv-loop μ-loop
 loop-holds c = search needs
 
-sub-if1 : tie.Need-sub-if1 Inv-loop μ-loop
-sub-if1 c = search needs
-
-same-length : tie.Need-same-length Inv-loop μ-loop
-same-length c = search needs
-
-returns : tie.Need-returns Inv-loop μ-loop
-returns c = search needs
+mul-number : tie.Need-mul-number Inv-loop μ-loop
+mul-number c = search needs
 
 number-requires : tie.Need-number-requires Inv-loop μ-loop
 number-requires c κs = search needs
@@ -39,20 +33,17 @@ slice-write-list c = search needs
 add-i : tie.Need-add-i Inv-loop μ-loop
 add-i c = search needs
 
-add-at : tie.Need-add-at Inv-loop μ-loop
-add-at c = search needs
-
 loop-less : tie.Need-loop-less Inv-loop μ-loop
 loop-less c = search needs
 
 loop-again : tie.Need-loop-again Inv-loop μ-loop
 loop-again c = search needs
 
-same-length-2 : tie.Need-same-length-2 Inv-loop μ-loop
-same-length-2 c = search needs
+same-length : tie.Need-same-length Inv-loop μ-loop
+same-length c = search needs
 
-returns-2 : tie.Need-returns-2 Inv-loop μ-loop
-returns-2 c = search needs
+returns : tie.Need-returns Inv-loop μ-loop
+returns c = search needs
 
 pub fill-spec : {M : Type 1} → statement M
 fill-spec =
@@ -61,16 +52,13 @@ fill-spec =
     Inv-loop
     μ-loop
     loop-holds
-    sub-if1
-    same-length
-    returns
+    mul-number
     number-requires
     cast-list
     mul-list
     slice-write-list
     add-i
-    add-at
     loop-less
     loop-again
-    same-length-2
-    returns-2)
+    same-length
+    returns)

@@ -1,0 +1,132 @@
+-- Rule after rule is the whole list of rules: what the code's chains and groups find is what the rules find first. Assumes nothing.
+use Prim.Native.Nat.{ℕ, suc, _≤_}
+use native.Mathlib.Nat.{le-antisymm}
+use native.Mathlib.Omega.{arith}
+use mathlib.Core.Bool.{Bool, true, false, cond, _&&_, and-eq-true-iff}
+use mathlib.Core.List.{List, [], _∷_, _++_, map, map-append}
+use mathlib.Core.Option.{Option, some, none, Option·none-ne-some, Option·some-injective}
+use mathlib.Core.Path.{_≡_, refl, sym, ap, _∙_}
+use lib.Dec.{eqb}
+use borrow.Author.Tests.{eqb-true, eqb-false, ne-eqb}
+use Rattle.sieve.specs.declared.Fault.{Fault}
+use Rattle.sieve.specs.Bytes.{Bytes, within}
+use Rattle.sieve.specs.Rules.{Rule}
+use Rattle.sieve.specs.Verdict.{Refusal, under, aboutLines, first}
+use Rattle.sieve.specs.Paper.{paperFault}
+use Rattle.sieve.proofs.Firsts.{first-append}
+use Rattle.sieve.proofs.Bounds.{is-within}
+use Rattle.findings.specs.declared.Finding.{Finding}
+use Rattle.findings.specs.Findings.{small, after, finds, faultOf}
+
+abbrev pub kept : Finding
+kept = record { number = 0; line = 0 }
+
+-- one rule after another, after what was found before
+unfoldable pub looked : Finding → List Rule → List Bytes → Finding
+looked f [] ls = f
+looked f (r ∷ rs) ls = looked (after f (r .broken ls) (r .number) (r .line)) rs ls
+
+-- the rules are numbered as rules about lines are
+unfoldable pub numbered : List Rule → Bool
+numbered [] = true
+numbered (r ∷ rs) = within 6 13 (r .number) && numbered rs
+
+-- what was found before stays
+stays : (f : Finding) (rs : List Rule) (ls : List Bytes) → eqb (f .number) 0 ≡ false → looked f rs ls ≡ f
+unfolding looked after
+stays f [] ls h = refl
+stays f (r ∷ rs) ls h = rw (h, looked) (stays f rs ls h)
+
+not-0 : (n : ℕ) → within 6 13 n ≡ true → eqb n 0 ≡ false
+not-0 n h = ne-eqb n 0 (λ e. omega (arith, is-within 6 13 n h))
+
+-- the fault of such a number says that number and the line
+fault-says : (n i : ℕ) → within 6 13 n ≡ true → paperFault (faultOf n i) ≡ under n i
+fault-says n i h =
+    let (least, most) = is-within 6 13 n h in
+    or 6 _ _ least (λ e. rw e) (λ a. or 7 _ _ a (λ e. rw e) (λ b. or 8 _ _ b (λ e. rw e) (λ c. or 9 _ _ c (λ e. rw e)
+    (λ d. or 10 _ _ d (λ e. rw e) (λ f. or 11 _ _ f (λ e. rw e) (λ g. or 12 _ _ g (λ e. rw e) (λ j. let last : n ≡ 13 = le-antisymm most j in rw last)))))))
+  where
+    or : (k : ℕ) (f g : Fault) → k ≤ n → (n ≡ k → paperFault f ≡ under n i) → (suc k ≤ n → paperFault g ≡ under n i) → paperFault (cond (eqb n k) f g) ≡ under n i
+    or k f g least here there = go (eqb n k) refl
+      where
+        go : (b : Bool) → eqb n k ≡ b → paperFault (cond b f g) ≡ under n i
+        go true e = here (eqb-true n k e)
+        go false e = there (let other = eqb-false n k e in omega (arith, other, least))
+
+pub looked-finds : (rs : List Rule) (ls : List Bytes) → numbered rs ≡ true → looked kept rs ls ≡ finds rs ls
+unfolding looked after finds first numbered
+looked-finds [] ls h = refl
+looked-finds (r ∷ rs) ls h = let (a, b) = and-eq-true-iff _ _ .0 h in go (r .broken ls) refl (not-0 (r .number) a) (looked-finds rs ls b)
+  where
+    go : (b : Bool) → r .broken ls ≡ b → eqb (r .number) 0 ≡ false → looked kept rs ls ≡ finds rs ls → looked kept (r ∷ rs) ls ≡ finds (r ∷ rs) ls
+    go true e n ih = rw (e, looked, finds, first) (stays _ rs ls n)
+    go false e n ih = rw (e, looked, finds, first) ih
+
+-- the same of a long list, step by step: what is found after each rule, and at the end g
+unfoldable pub Steps : Finding → List Rule → List Bytes → Finding → Type 0
+Steps f [] ls g = f ≡ g
+Steps f (r ∷ rs) ls g = (h : Finding) × (h ≡ after f (r .broken ls) (r .number) (r .line)) × Steps h rs ls g
+
+stepped : (f g : Finding) (rs : List Rule) (ls : List Bytes) → Steps f rs ls g → g ≡ looked f rs ls
+unfolding Steps looked
+stepped f g [] ls e = sym e
+stepped f g (r ∷ rs) ls (h, e, s) = stepped h g rs ls s ∙ ap (λ (k : Finding). looked k rs ls) e
+
+pub steps-find : (rs : List Rule) (ls : List Bytes) (g : Finding) → numbered rs ≡ true → Steps kept rs ls g → g ≡ finds rs ls
+steps-find rs ls g h s = stepped kept g rs ls s ∙ looked-finds rs ls h
+
+-- nothing is found exactly where the number is 0
+module _ (ls : List Bytes) where
+  abbrev firstOf : List Rule → Option Refusal
+  firstOf rs = first (map (aboutLines ls) rs)
+
+  -- what a rule of such a number says
+  record Said (rs : List Rule) (r : Refusal) : Type 0 where
+    known : within 6 13 (r .number) ≡ true
+    is : r ≡ under (r .number) (r .line)
+
+  said : (rs : List Rule) (q : Refusal) → numbered rs ≡ true → firstOf rs ≡ some q → Said rs q
+  unfolding numbered first
+  said [] q h e = absurd (Option·none-ne-some q e)
+  said (r ∷ rs) q h e = let (a, b) = and-eq-true-iff _ _ .0 h in go (r .broken ls) refl a (said rs q b)
+    where
+      go : (b : Bool) → r .broken ls ≡ b → within 6 13 (r .number) ≡ true → (firstOf rs ≡ some q → Said rs q) → Said (r ∷ rs) q
+      go true f a ih = let s : under (r .number) (r .line) ≡ q = Option·some-injective _ _ (rw (f, first) at e) in rw (← s) (record { known = a; is = refl })
+      go false f a ih = let s = ih (rw (f, first) at e) in record { known = s .known; is = s .is }
+
+  pub found-nothing : (rs : List Rule) → numbered rs ≡ true → finds rs ls .number ≡ 0 → firstOf rs ≡ none
+  unfolding finds
+  found-nothing rs h = go (firstOf rs) refl
+    where
+      go : (o : Option Refusal) → firstOf rs ≡ o → small o .number ≡ 0 → o ≡ none
+      go none e z = refl
+      go (some q) e z = absurd (omega (arith, is-within 6 13 (q .number) (said rs q h e .known)))
+
+  -- else the fault that the code makes of it is what they find
+  pub found-fault : (rs : List Rule) → numbered rs ≡ true → (finds rs ls .number ≡ 0 → ⊥) → firstOf rs ≡ some (paperFault (faultOf (finds rs ls .number) (finds rs ls .line)))
+  unfolding finds
+  found-fault rs h = go (firstOf rs) refl
+    where
+      go : (o : Option Refusal) → firstOf rs ≡ o → (small o .number ≡ 0 → ⊥) → o ≡ some (paperFault (faultOf (small o .number) (small o .line)))
+      go none e z = absurd (z refl)
+      go (some q) e z = let s = said rs q h e in ap some (s .is ∙ sym (fault-says (q .number) (q .line) (s .known)))
+
+  -- group after group
+
+  groups : (rs ss : List Rule) → firstOf (rs ++ ss) ≡ first (firstOf rs ∷ map (aboutLines ls) ss)
+  groups rs ss = ap first (map-append (aboutLines ls) rs ss) ∙ sym (first-append (map (aboutLines ls) rs) (map (aboutLines ls) ss))
+
+  -- what a group finds stands for all
+  pub group-stops : {f : Finding} (rs ss : List Rule) → f ≡ finds rs ls → (f .number ≡ 0 → ⊥) → f ≡ finds (rs ++ ss) ls
+  unfolding finds first
+  group-stops {f} rs ss is h = go (firstOf rs) refl is
+    where
+      go : (o : Option Refusal) → firstOf rs ≡ o → f ≡ small o → f ≡ finds (rs ++ ss) ls
+      go none e z = absurd (h (ap (λ g. g .number) z))
+      go (some q) e z = rw (groups rs ss, e, first) z
+
+  -- a group in which nothing is found is passed
+  pub group-passed : {f g : Finding} (rs ss : List Rule) → numbered rs ≡ true → f ≡ finds rs ls → f .number ≡ 0 → g ≡ finds ss ls → g ≡ finds (rs ++ ss) ls
+  unfolding finds first
+  group-passed rs ss h is z e = rw (groups rs ss, found-nothing rs h (sym (ap (λ g. g .number) is) ∙ z), first) e

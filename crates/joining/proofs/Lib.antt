@@ -1,0 +1,4 @@
+pub mod Handing
+pub mod Laying
+pub mod Stages
+pub mod OneAnswer

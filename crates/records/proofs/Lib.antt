@@ -1,0 +1,2 @@
+pub mod RecordsLie
+pub mod OneAnswer

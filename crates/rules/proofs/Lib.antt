@@ -1,2 +1,0 @@
-mod Listed
-pub mod OneAnswer

@@ -1,0 +1,14 @@
+-- What a test bounds, and a case of two. Assumes nothing.
+use Prim.Native.Nat.{ℕ, _≤_}
+use mathlib.Core.Bool.{Bool, true, false, cond, and-eq-true-iff}
+use mathlib.Core.Path.{_≡_, refl}
+use borrow.Author.Tests.{leb-true}
+use Rattle.sieve.specs.Bytes.{within}
+
+pub is-within : (lo hi n : ℕ) → within lo hi n ≡ true → (lo ≤ n) × (n ≤ hi)
+is-within lo hi n h = let (a, b) = and-eq-true-iff _ _ .0 h in (leb-true _ _ a, leb-true _ _ b)
+
+-- a case of two is at most what each is at most where it is taken
+pub case-at-most : (n : ℕ) (b : Bool) {x y : ℕ} → (b ≡ true → x ≤ n) → y ≤ n → cond b x y ≤ n
+case-at-most n true h k = h refl
+case-at-most n false h k = k

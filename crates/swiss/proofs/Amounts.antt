@@ -1,0 +1,347 @@
+-- Amounts are numbers: an amount that line 19 may hold stands for 1 to 99999999999 cents, and each such number is the value of one. Assumes nothing.
+use Prim.Native.Nat.{ℕ, zero, suc, _+_, _-_, _*_, _/_, _%_, _^_, _≤_, _<_}
+use native.Mathlib.Nat.{pow-le-pow-right}
+use native.Mathlib.Omega.{arith}
+use mathlib.Core.Bool.{Bool, true, false, cond, _&&_, _||_, not, true≢false, and-eq-true-iff, or-true}
+use mathlib.Core.List.{[], _∷_, _++_, append-nil}
+use mathlib.Core.Path.{_≡_, refl, sym, _∙_, ap}
+use lib.Dec.{eqb, leb, ltb, lit≤}
+use lib.ListN.{length, getD, take, drop, length-append, take-append-drop, drop-of-length-le}
+use lib.Seq.{length-take-le, drop-cons, take-at, getD-at, drop-append-add}
+use borrow.Author.Tests.{ltb-true, ltb-false, leb-true, eqb-true, eqb-false, not-true, lt-ltb, le-ltb, le-leb, lt-leb, ne-eqb}
+use Rattle.sieve.specs.Bytes.{Bytes, ascii, same, every}
+use Rattle.sieve.specs.Letters.{digit}
+use Rattle.sieve.specs.Characters.{characters}
+use Rattle.sieve.specs.Mod97.{onto, number}
+use Rattle.sieve.proofs.Bounds.{is-within}
+use Rattle.swiss.specs.Limits.{amountMost}
+use Rattle.swiss.specs.Forms.{amount}
+use Rattle.swiss.specs.Cents.{cents}
+
+-- digits, and the number that they are read as
+
+digit-onto : (n x : ℕ) → digit x ≡ true → onto n x ≡ 10 * n + (x - 48)
+digit-onto n x h = rw h
+
+digit-byte : (d : ℕ) → d < 10 → digit (48 + d) ≡ true
+digit-byte d h = and-eq-true-iff _ _ .1 (le-leb 48 (48 + d) (omega arith), le-leb (48 + d) 57 (omega arith))
+
+number-after : (n : ℕ) (s t : Bytes) → number n (s ++ t) ≡ number (number n s) t
+unfolding number
+number-after n [] t = refl
+number-after n (x ∷ s) t = number-after (onto n x) s t
+
+number-below : (s : Bytes) (n m : ℕ) → every digit s ≡ true → n < 10 ^ m → number n s < 10 ^ (m + length s)
+unfolding number
+number-below [] n m h b = let e : m + 0 ≡ m = omega arith in rw e b
+number-below (x ∷ s) n m h b =
+    let (hx, hs) = and-eq-true-iff _ _ .0 h in
+    let e : m + suc (length s) ≡ suc m + length s = omega arith in
+    let (_, top) = is-within 48 57 x hx in
+    rw (e, digit-onto n x hx) (number-below s (10 * n + (x - 48)) (suc m) hs (omega arith))
+
+-- the digits of a number in front of a text, at most k of them
+digits : ℕ → ℕ → Bytes → Bytes
+digits zero n s = s
+digits (suc k) n s = cond (ltb n 10) ((48 + n) ∷ s) (digits k (n / 10) ((48 + n % 10) ∷ s))
+
+-- how a number of cents is written, with at most k digits of francs
+written : ℕ → ℕ → Bytes
+written k n = digits k (n / 100) [] ++ 46 ∷ (48 + n / 10 % 10) ∷ (48 + n % 10) ∷ []
+
+-- what is read is what was written
+
+few : (k n : ℕ) (s : Bytes) → n < 10 → digits (suc k) n s ≡ (48 + n) ∷ s
+unfolding digits
+few k n s h = rw (lt-ltb n 10 h)
+
+many : (k n : ℕ) (s : Bytes) → 10 ≤ n → digits (suc k) n s ≡ digits k (n / 10) ((48 + n % 10) ∷ s)
+unfolding digits
+many k n s h = rw (le-ltb n 10 h)
+
+digits-of-number : (t s : Bytes) (k n : ℕ) → every digit t ≡ true → 1 ≤ n → digits (length t + k) (number n t) s ≡ digits k n (t ++ s)
+unfolding number
+digits-of-number [] s k n h b = let e : 0 + k ≡ k = omega arith in rw e
+digits-of-number (x ∷ t) s k n h b =
+    let (hx, ht) = and-eq-true-iff _ _ .0 h in
+    let (low, top) = is-within 48 57 x hx in
+    let m = 10 * n + (x - 48) in
+    let e : suc (length t) + k ≡ length t + suc k = omega arith in
+    let q : m / 10 ≡ n = omega arith in
+    let r : 48 + m % 10 ≡ x = omega arith in
+    rw (e, digit-onto n x hx) (digits-of-number t s (suc k) m ht (omega arith) ∙ (many k m (t ++ s) (omega arith) ∙ rw (q, r)))
+
+-- no zero in front, save alone
+abbrev unled : Bytes → Bool
+unled w = eqb (length w) 1 || not (eqb (getD w 0 0) 48)
+
+digits-of-whole : (w : Bytes) (k : ℕ) → 1 ≤ length w → length w ≤ k → every digit w ≡ true → unled w ≡ true → digits k (number 0 w) [] ≡ w
+unfolding number
+digits-of-whole [] k a b h l = absurd (omega arith)
+digits-of-whole (x ∷ []) k a b h l =
+    let (hx, _) = and-eq-true-iff _ _ .0 h in
+    let (low, top) = is-within 48 57 x hx in
+    let m = 10 * 0 + (x - 48) in
+    let e : k ≡ suc (k - 1) = omega arith in
+    let r : 48 + m ≡ x = omega arith in
+    rw (e, digit-onto 0 x hx) (few (k - 1) m [] (omega arith) ∙ rw r)
+digits-of-whole (x ∷ y ∷ w) k a b h l =
+    let t = y ∷ w in
+    let (hx, ht) = and-eq-true-iff _ _ .0 h in
+    let (low, top) = is-within 48 57 x hx in
+    let m = 10 * 0 + (x - 48) in
+    let x≢48 = eqb-false x 48 (not-true _ (rw (ne-eqb (length (x ∷ t)) 1 (λ z. omega arith)) at l)) in
+    let e : k ≡ length t + suc (k - length (x ∷ t)) = omega arith in
+    let r : 48 + m ≡ x = omega arith in
+    rw (e, digit-onto 0 x hx)
+    (digits-of-number t [] (suc (k - length (x ∷ t))) m ht (omega (arith, x≢48))
+    ∙ (few (k - length (x ∷ t)) m (t ++ []) (omega arith) ∙ rw (r, append-nil t)))
+
+-- the parts of an amount
+
+abbrev laid : Bytes → ℕ → ℕ → Bytes
+laid w c d = w ++ 46 ∷ c ∷ d ∷ []
+
+-- whole francs, two digits behind the point
+record Parts (w : Bytes) (c d : ℕ) : Type 0 where
+  francs : 1 ≤ length w
+  whole : every digit w ≡ true
+  lead : unled w ≡ true
+  tenths : digit c ≡ true
+  hundredths : digit d ≡ true
+
+module _ (w : Bytes) (c d : ℕ) where
+  laid-length : length (laid w c d) ≡ length w + 3
+  laid-length = length-append w (46 ∷ c ∷ d ∷ [])
+
+  -- the places of the point and of the digit behind it
+  point : length w ≡ length (laid w c d) - 3
+  point = omega (arith, laid-length)
+
+  behind : length w + 1 ≡ length (laid w c d) - 2
+  behind = omega (arith, laid-length)
+
+  laid-cents : cents (laid w c d) ≡ onto (onto (number 0 w) c) d
+  unfolding cents number
+  laid-cents = rw (← behind, ← point, take-at w (46 ∷ c ∷ d ∷ []) (length w) refl, drop-append-add w (46 ∷ c ∷ d ∷ []) 1) (number-after 0 w (c ∷ d ∷ []))
+
+  laid-amount : amount (laid w c d)
+      ≡ (leb 4 (length w + 3) && every digit w && eqb 46 46 && every digit (c ∷ d ∷ []) && unled w && not (same (laid w c d) (ascii "0.00")))
+  laid-amount = rw (← behind, ← point, take-at w (46 ∷ c ∷ d ∷ []) (length w) refl, drop-append-add w (46 ∷ c ∷ d ∷ []) 1, getD-at w 46 (c ∷ d ∷ []) 0 (length w) refl, laid-length)
+
+-- an amount is laid of parts, and is not 0.00
+record Amount (s : Bytes) : Type 0 where
+  w : Bytes
+  c : ℕ
+  d : ℕ
+  is : s ≡ laid w c d
+  parts : Parts w c d
+  not-zero : same s (ascii "0.00") ≡ false
+
+six : (a b c d e f : Bool) → (a && b && c && d && e && f) ≡ true → (a ≡ true) × (b ≡ true) × (c ≡ true) × (d ≡ true) × (e ≡ true) × (f ≡ true)
+six a b c d e f h =
+    let (h5, hf) = and-eq-true-iff (a && b && c && d && e) f .0 h in
+    let (h4, he) = and-eq-true-iff (a && b && c && d) e .0 h5 in
+    let (h3, hd) = and-eq-true-iff (a && b && c) d .0 h4 in
+    let (h2, hc) = and-eq-true-iff (a && b) c .0 h3 in
+    let (ha, hb) = and-eq-true-iff a b .0 h2 in
+    (ha, hb, hc, hd, he, hf)
+
+last-two : (s : Bytes) (i : ℕ) → length s ≡ suc (suc i) → drop i s ≡ getD s i 0 ∷ getD s (suc i) 0 ∷ []
+last-two s i h = rw (drop-cons s i 0 (omega arith), drop-cons s (suc i) 0 (omega arith), drop-of-length-le s {i = suc (suc i)} (omega arith))
+
+amount-parts : (s : Bytes) → amount s ≡ true → Amount s
+amount-parts s h =
+    let i = length s - 3 in
+    let w = take i s in
+    let c = getD s (suc i) 0 in
+    let d = getD s (suc (suc i)) 0 in
+    let k = six (leb 4 (length s)) (every digit w) (eqb (getD s i 0) 46) (every digit (drop (length s - 2) s)) (unled w) (not (same s (ascii "0.00"))) h in
+    let long = leb-true 4 (length s) (k .0) in
+    let e : length s - 2 ≡ suc i = omega arith in
+    let two : drop (suc i) s ≡ c ∷ d ∷ [] = last-two s (suc i) (omega arith) in
+    let behind : every digit (c ∷ d ∷ []) ≡ true = rw (e, two) at k .3 in
+    let (hc, rest) = and-eq-true-iff (digit c) (digit d && true) .0 behind in
+    let (hd, _) = and-eq-true-iff (digit d) true .0 rest in
+    let three : drop i s ≡ 46 ∷ c ∷ d ∷ [] = drop-cons s i 0 (omega arith) ∙ rw (eqb-true (getD s i 0) 46 (k .2), two) in
+    record {
+      w = w;
+      c = c;
+      d = d;
+      is = sym (take-append-drop i s) ∙ rw three;
+      parts = record { francs = omega (arith, length-take-le i s (omega arith)); whole = k .1; lead = k .4; tenths = hc; hundredths = hd };
+      not-zero = not-true _ (k .5);
+    }
+
+-- how many characters an amount has
+
+one-each : (s t : Bytes) → every digit s ≡ true → characters (s ++ t) ≡ length s + characters t
+unfolding characters
+one-each [] t h = omega arith
+one-each (x ∷ s) t h =
+    let (hx, hs) = and-eq-true-iff _ _ .0 h in
+    let (low, top) = is-within 48 57 x hx in
+    rw (lt-leb 0x80 x (omega arith)) (omega (arith, one-each s t hs))
+
+module _ {w : Bytes} {c d : ℕ} (p : Parts w c d) where
+  laid-characters : characters (laid w c d) ≡ length w + 3
+  unfolding characters
+  laid-characters =
+      let behind : every digit (c ∷ d ∷ []) ≡ true = rw (p .tenths, p .hundredths) in
+      omega (arith, one-each w (46 ∷ c ∷ d ∷ []) (p .whole), one-each (c ∷ d ∷ []) [] behind)
+
+  parts-cents : cents (laid w c d) ≡ 100 * number 0 w + 10 * (c - 48) + (d - 48)
+  parts-cents = omega (arith, laid-cents w c d, digit-onto (number 0 w) c (p .tenths), digit-onto (onto (number 0 w) c) d (p .hundredths))
+
+  -- what is read of an amount is written as it stood
+  written-again : (k : ℕ) → length w ≤ k → written k (cents (laid w c d)) ≡ laid w c d
+  unfolding written
+  written-again k h =
+      let n = cents (laid w c d) in
+      let (c-low, c-top) = is-within 48 57 c (p .tenths) in
+      let (d-low, d-top) = is-within 48 57 d (p .hundredths) in
+      let q : n / 100 ≡ number 0 w = omega (arith, parts-cents) in
+      let r : 48 + n / 10 % 10 ≡ c = omega (arith, parts-cents) in
+      let u : 48 + n % 10 ≡ d = omega (arith, parts-cents) in
+      rw (q, r, u, digits-of-whole w k (p .francs) h (p .whole) (p .lead))
+
+  cents-most : characters (laid w c d) ≤ amountMost → cents (laid w c d) ≤ 99999999999
+  cents-most h =
+      let (_, c-top) = is-within 48 57 c (p .tenths) in
+      let (_, d-top) = is-within 48 57 d (p .hundredths) in
+      let short : 10 ^ (0 + length w) ≤ 10 ^ 9 = pow-le-pow-right (lit≤ tt) {j = 9} (omega (arith, laid-characters)) in
+      omega (arith, parts-cents, number-below w 0 0 (p .whole) (lit≤ tt))
+
+amount-written : (s : Bytes) → amount s ≡ true → (k : ℕ) → length s ≤ k → written k (cents s) ≡ s
+amount-written s h k b =
+    let a = amount-parts s h in
+    let l = laid-length (a .w) (a .c) (a .d) in
+    rw (a .is) (written-again (a .parts) k (omega (arith, l, ap length (a .is))))
+
+-- each value once
+pub one-amount-each : (s t : Bytes) → amount s ≡ true → amount t ≡ true → cents s ≡ cents t → s ≡ t
+one-amount-each s t hs ht e =
+    let k = length s + length t in
+    sym (amount-written s hs k (omega arith)) ∙ (ap (written k) e ∙ amount-written t ht k (omega arith))
+
+some-cents : (s : Bytes) → amount s ≡ true → cents s ≡ 0 → ⊥
+unfolding written digits
+some-cents s h z =
+    let e : written (suc (length s)) 0 ≡ s = ap (written (suc (length s))) (sym z) ∙ amount-written s h (suc (length s)) (omega arith) in
+    true≢false (ap (λ t. same t (ascii "0.00")) e ∙ amount-parts s h .not-zero)
+
+-- an amount that line 19 may hold is 0.01 to 999999999.99
+pub amount-in-cents : (s : Bytes) → amount s ≡ true → characters s ≤ amountMost → (1 ≤ cents s) × (cents s ≤ 99999999999)
+amount-in-cents s h b =
+    let a = amount-parts s h in
+    let some = some-cents s h in
+    let most : cents s ≤ 99999999999 = rw (a .is) (cents-most (a .parts) (rw (a .is) at b)) in
+    (omega arith, most)
+
+-- each number in this range has an amount
+
+-- r is what stands for n, in digits, in front of s
+record Written (k n : ℕ) (s r : Bytes) : Type 0 where
+  value : number 0 r ≡ number n s
+  digital : every digit s ≡ true → every digit r ≡ true
+  least : length s < length r
+  most : length r ≤ k + length s
+  front : 1 ≤ n → getD r 0 0 ≡ 48 → ⊥
+
+module _ (k n : ℕ) (s : Bytes) where
+  one-digit : n < 10 → Written (suc k) n s ((48 + n) ∷ s)
+  unfolding number
+  one-digit h =
+      let e : 10 * 0 + (48 + n - 48) ≡ n = omega arith in
+      record {
+        value = rw (digit-onto 0 (48 + n) (digit-byte n h), e);
+        digital = λ hs. and-eq-true-iff _ _ .1 (digit-byte n h, hs);
+        least = omega arith;
+        most = omega arith;
+        front = λ m z. omega arith;
+      }
+
+  more-digits : (r : Bytes) → 10 ≤ n → Written k (n / 10) ((48 + n % 10) ∷ s) r → Written (suc k) n s r
+  unfolding number
+  more-digits r h x =
+      let d = 48 + n % 10 in
+      let is-digit = digit-byte (n % 10) (omega arith) in
+      let e : 10 * (n / 10) + (d - 48) ≡ n = omega arith in
+      record {
+        value = x .value ∙ rw (digit-onto (n / 10) d is-digit, e);
+        digital = λ hs. x .digital (and-eq-true-iff _ _ .1 (is-digit, hs));
+        least = omega (arith, x .least);
+        most = omega (arith, x .most);
+        front = λ m. x .front (omega arith);
+      }
+
+digits-written : (k n : ℕ) (s : Bytes) → n < 10 ^ suc k → Written (suc k) n s (digits (suc k) n s)
+digits-written zero n s h = rw (few 0 n s h) (one-digit 0 n s h)
+digits-written (suc k) n s h = go (ltb n 10) refl (digits-written k (n / 10) ((48 + n % 10) ∷ s) (omega arith))
+  where
+    go : (b : Bool) → ltb n 10 ≡ b → Written (suc k) (n / 10) ((48 + n % 10) ∷ s) (digits (suc k) (n / 10) ((48 + n % 10) ∷ s)) → Written (suc (suc k)) n s (digits (suc (suc k)) n s)
+    go true e x = rw (few (suc k) n s (ltb-true n 10 e)) (one-digit (suc k) n s (ltb-true n 10 e))
+    go false e x = rw (many (suc k) n s (ltb-false n 10 e)) (more-digits (suc k) n s _ (ltb-false n 10 e) x)
+
+same-is : (s t : Bytes) → same s t ≡ true → s ≡ t
+same-is [] [] h = refl
+same-is [] (y ∷ t) h = absurd (true≢false (sym h))
+same-is (x ∷ s) [] h = absurd (true≢false (sym h))
+same-is (x ∷ s) (y ∷ t) h = let (hx, hs) = and-eq-true-iff _ _ .0 h in rw (eqb-true x y hx, same-is s t hs)
+
+zero-cents : cents (ascii "0.00") ≡ 0
+unfolding cents number
+zero-cents = refl
+
+module _ (n : ℕ) (some : 1 ≤ n) (most : n ≤ 99999999999) where
+  abbrev w : Bytes
+  w = digits 9 (n / 100) []
+
+  abbrev c : ℕ
+  c = 48 + n / 10 % 10
+
+  abbrev d : ℕ
+  d = 48 + n % 10
+
+  whole-written : Written 9 (n / 100) [] w
+  whole-written = digits-written 8 (n / 100) [] (omega arith)
+
+  whole-unled : unled w ≡ true
+  whole-unled = go (n / 100) refl
+    where
+      go : (m : ℕ) → n / 100 ≡ m → unled w ≡ true
+      go zero e = rw (e, few 8 0 [] (lit≤ tt))
+      go (suc m) e = rw (ne-eqb (getD w 0 0) 48 (whole-written .front (omega arith))) (or-true (eqb (length w) 1))
+
+  parts : Parts w c d
+  parts =
+      record {
+        francs = whole-written .least;
+        whole = whole-written .digital refl;
+        lead = whole-unled;
+        tenths = digit-byte (n / 10 % 10) (omega arith);
+        hundredths = digit-byte (n % 10) (omega arith);
+      }
+
+  cents-again : cents (laid w c d) ≡ n
+  unfolding number
+  cents-again = omega (arith, parts-cents parts, whole-written .value)
+
+  not-nothing : same (laid w c d) (ascii "0.00") ≡ false
+  not-nothing = go (same (laid w c d) (ascii "0.00")) refl
+    where
+      go : (b : Bool) → same (laid w c d) (ascii "0.00") ≡ b → b ≡ false
+      go true e = absurd (omega (arith, cents-again, ap cents (same-is (laid w c d) (ascii "0.00") e), zero-cents))
+      go false e = refl
+
+  written-amount : (s : Bytes) × (amount s ≡ true) × (characters s ≤ amountMost) × (cents s ≡ n)
+  written-amount = (
+    laid w c d,
+    rw (laid-amount w c d, le-leb 4 (length w + 3) (omega (arith, parts .francs)), parts .whole, parts .tenths, parts .hundredths, parts .lead, not-nothing),
+    omega (arith, laid-characters parts, whole-written .most),
+    cents-again,
+  )
+
+-- each number in the range is an amount that line 19 may hold
+pub every-amount : (n : ℕ) → 1 ≤ n → n ≤ 99999999999 → (s : Bytes) × (amount s ≡ true) × (characters s ≤ amountMost) × (cents s ≡ n)
+every-amount = written-amount

@@ -1,0 +1,16 @@
+-- `swiss_forms::qrr` meets its contract. Assumes nothing.
+use borrow.Author.Needs.{needs}
+use Rattle.swiss_forms.proofs.qrr.Statement.{statement}
+use Rattle.swiss_forms.proofs.qrr.Tie as tie
+
+every-requires : tie.Need-every-requires
+every-requires c κs = search needs
+
+every-requires-2 : tie.Need-every-requires-2
+every-requires-2 c κs = search needs
+
+returns : tie.Need-returns
+returns c = rw (c .before .every .ensures, c .every2 .ensures)
+
+pub qrr-spec : {M : Type 1} → statement M
+qrr-spec = tie.close (tie.spec every-requires every-requires-2 returns)

@@ -1,0 +1,37 @@
+// The verdict on a payload, in code: rules 1 to 5 over the whole payload, then those about its lines.
+use findings::fault_of;
+use lines::clear;
+use sieve::Answer;
+use swiss::limits::LIMITS;
+use swiss_rules::rules;
+use whole::whole;
+ghost use mathlib.Core.Path.{_≡_};
+ghost use Rattle.sieve.specs.Paper.{paper};
+ghost use Rattle.sieve.specs.Verdict.{verdict};
+ghost use Rattle.swiss.specs.Swiss.{swiss};
+ghost use Rattle.whole.specs.Judged.{IsJudged};
+
+// The verdict on any bytes, with the places of an accepted payload's lines in the list; of a refused one it holds none.
+pub fn judge(payload: &[u8], places: &mut [u16; 68]) -> Answer
+    ensures { λ r. ⌜ IsJudged swiss (now (payload .entry)) r (now (places .exit)) ⌝ }
+{
+    match whole(payload, LIMITS, places) {
+        Answer::Refused(f) => Answer::Refused(f),
+        Answer::Accepted(n, k) => {
+            let found = rules(payload, places, n);
+            if found.number != 0 {
+                clear(places);
+                return Answer::Refused(fault_of(found));
+            }
+            Answer::Accepted(n, k)
+        }
+    }
+}
+
+// The verdict alone.
+pub fn verdict(payload: &[u8]) -> Answer
+    ensures { λ r. ⌜ paper r ≡ verdict swiss (now (payload .entry)) ⌝ }
+{
+    let mut places = [0; 68];
+    judge(payload, &mut places)
+}

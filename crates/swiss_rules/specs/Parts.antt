@@ -1,0 +1,41 @@
+-- The list of rules in three parts, and what the code knows of a bill's lines. Assumes nothing.
+use Prim.Native.Nat.{ℕ}
+use mathlib.Core.Bool.{Bool, true, cond, _&&_}
+use mathlib.Core.List.{List, [], _∷_, flatten}
+use mathlib.Core.Path.{_≡_}
+use lib.ListN.{length}
+use Rattle.sieve.specs.Bytes.{Bytes}
+use Rattle.sieve.specs.Lines.{cut, linesOf}
+use Rattle.sieve.specs.Mod10.{checks10}
+use Rattle.sieve.specs.Mod97.{checks97}
+use Rattle.sieve.specs.Rules.{Rule, When, isEmpty, never}
+use Rattle.swiss.specs.Forms.{qrr, scor}
+use Rattle.swiss.specs.Swiss.{header, account, address, reserved, payment, reference, information, procedures, pairing, together}
+use Rattle.lines.specs.Listed.{listed}
+use Rattle.swiss_rules.specs.declared.Right.{Right}
+
+-- an address that may be absent is, where its first line is empty
+abbrev pub absentIf : Bool → ℕ → When
+absentIf optional n ls = optional && isEmpty n ls
+
+-- whether a reference has the form of its type, and its check digits; one of no type has both
+pub record IsRight (l : Bytes) (qr creditor : Bool) (r : Right) : Type 0 where
+  pub formed : r .formed ≡ cond qr (qrr l) (cond creditor (scor l) true)
+  pub checked : r .checked ≡ cond qr (checks10 l) (cond creditor (checks97 l) true)
+
+-- lines 1 to 11
+unfoldable pub front : List Rule
+front = flatten (header ∷ account ∷ address 5 never ∷ [])
+
+-- lines 12 to 27
+unfoldable pub middle : List Rule
+middle = flatten (reserved ∷ payment ∷ address 21 (isEmpty 21) ∷ [])
+
+-- lines 28 to 34, and those that go together
+unfoldable pub back : List Rule
+back = flatten (reference ∷ information ∷ procedures ∷ (pairing ∷ together ∷ []) ∷ [])
+
+-- the places are those of a payload's lines, and the count is theirs
+pub record Counted (p : Bytes) (places : List ℕ) (count : ℕ) : Type 0 where
+  pub listed : places ≡ listed p
+  pub counted : count ≡ length (linesOf (cut p))

@@ -1,0 +1,63 @@
+-- `text::plain_run` meets its contract. The invariant: all bytes up to `i` are of the run. Assumes nothing.
+use Prim.Native.Nat.{_+_, _-_}
+use native.Mathlib.Omega.{arith}
+use native.Mathlib.Nat.{zero-add}
+use mathlib.Core.Path.{_≡_, sym, _∙_}
+use borrow.Author.Needs.{needs}
+use lib.ListN.{length, drop}
+use Rattle.sieve.specs.Latin.{inOne}
+use Rattle.text.specs.Runs.{run}
+use Rattle.text.proofs.Runs.{passed, stopped, ended}
+use Rattle.text.proofs.plain_run.Statement.{statement}
+use Rattle.text.proofs.plain_run.Tie as tie
+
+abbrev Inv-loop : tie.InvT-loop
+Inv-loop s i₀ i = run inOne s ≡ i + run inOne (drop i s)
+
+abbrev μ-loop : tie.MeasureT-loop
+μ-loop s i₀ i = length s - i
+
+loop-holds : tie.Need-loop-holds Inv-loop μ-loop
+loop-holds c = sym (zero-add _)
+
+shared-slice-read-in-one : tie.Need-shared-slice-read-in-one Inv-loop μ-loop
+shared-slice-read-in-one c = search needs
+
+in-one-requires : tie.Need-in-one-requires Inv-loop μ-loop
+in-one-requires c κs = search needs
+
+add-i : tie.Need-add-i Inv-loop μ-loop
+add-i c = search needs
+
+loop-less : tie.Need-loop-less Inv-loop μ-loop
+loop-less c = search needs
+
+loop-again : tie.Need-loop-again Inv-loop μ-loop
+loop-again c =
+    let l = c .before .before .before .before in
+    l .loop .inv ∙ passed inOne (l .before .before .args .s .now) (l .loop .i) (c .before .before .before .loop-test .taken) (sym (c .before .in-one .ensures) ∙ c .if1 .taken)
+
+returns : tie.Need-returns Inv-loop μ-loop
+returns c =
+    let l = c .before .before .before .before in
+    omega (arith, l .loop .inv, stopped inOne (l .before .before .args .s .now) (l .loop .i) (c .before .before .before .loop-test .taken) (sym (c .before .in-one .ensures) ∙ c .if1 .left))
+
+returns-2 : tie.Need-returns-2 Inv-loop μ-loop
+returns-2 c =
+    let l = c .before in
+    omega (arith, l .loop .inv, ended inOne (l .before .before .args .s .now) (l .loop .i) (c .loop-test .left))
+
+pub plain-run-spec : {M : Type 1} → statement M
+plain-run-spec =
+    tie.close
+    (tie.spec
+    Inv-loop
+    μ-loop
+    loop-holds
+    shared-slice-read-in-one
+    in-one-requires
+    add-i
+    loop-less
+    loop-again
+    returns
+    returns-2)

@@ -1,0 +1,62 @@
+-- The verdict of a layout, by what rules 1 to 5 answer and what its rules about lines find. Assumes nothing.
+use Prim.Native.Nat.{ℕ, _≤_}
+use native.Mathlib.Omega.{arith}
+use mathlib.Core.Bool.{Bool, true, false, cond}
+use mathlib.Core.List.{List}
+use mathlib.Core.Option.{some, none}
+use mathlib.Core.Path.{_≡_, refl, sym, ap, _∙_}
+use lib.Dec.{leb}
+use lib.ListN.{length, replicate}
+use borrow.Author.Tests.{ltb-false, le-leb}
+use Rattle.sieve.specs.declared.Answer.{Answer}
+use Rattle.sieve.specs.declared.Answer.the-variants.{Accepted, Refused}
+use Rattle.sieve.specs.declared.Break.{Break}
+use Rattle.sieve.specs.declared.Fault.{Fault}
+use Rattle.sieve.specs.Bytes.{Bytes}
+use Rattle.sieve.specs.Lines.{cut, linesOf, billOf}
+use Rattle.sieve.specs.Paper.{paperFault, paper}
+use Rattle.sieve.specs.Rules.{Layout}
+use Rattle.sieve.specs.Verdict.{Verdict, accepted, refused, findings, first, verdict}
+use Rattle.sieve.specs.Whole.{bare}
+use Rattle.sieve.proofs.Findings.{found-none, settled-accepts, verdict-is, clear}
+use Rattle.sieve.proofs.Stages.{inLines, whole-refused, lines-kept, lines-broken}
+use Rattle.lines.specs.Listed.{room, greatest, listed}
+use Rattle.lines.proofs.Listed.{listed-length}
+use Rattle.whole.specs.Judged.{judgedPlaces, IsJudged}
+
+module _ (L : Layout) (p : Bytes) where
+  judged : {r : Answer} {after : List ℕ} → verdict L p ≡ paper r → after ≡ judgedPlaces p (paper r) → IsJudged L p r after
+  judged v l = record { answer = sym v; places = l ∙ sym (ap (judgedPlaces p) v) }
+
+  -- what is refused as a whole is refused
+  pub refused-whole : {f : Fault} {after : List ℕ} → IsJudged (bare L) p (Refused f) after → IsJudged L p (Refused f) after
+  refused-whole {f} is = judged (whole-refused L p (paperFault f) (sym (is .answer))) (is .places ∙ sym (ap (judgedPlaces p) (is .answer)))
+
+  -- else the rules about lines decide
+
+  module _ {n : ℕ} {k : Break} {places : List ℕ} (is : IsJudged (bare L) p (Accepted n k) places) where
+    pub kept : first (inLines L p) ≡ none → IsJudged L p (Accepted n k) places
+    kept nothing = judged (lines-kept L p n k (sym (is .answer)) nothing) (is .places ∙ sym (ap (judgedPlaces p) (is .answer)))
+
+    pub broken : {r : Answer} {after : List ℕ} (f : Fault) → first (inLines L p) ≡ some (paperFault f) → r ≡ Refused f → after ≡ replicate room 0 → IsJudged L p r after
+    broken f found same gone = rw same (judged (lines-broken L p n k (sym (is .answer)) (paperFault f) found) gone)
+
+    -- the list has the places of the payload's lines, and the count is theirs
+    pub counted : L .most-bytes ≤ greatest → (places ≡ listed p) × (n ≡ length (linesOf (cut p)))
+    unfolding billOf
+    counted few =
+        let accepted-is = settled-accepts (billOf p) (first (findings (bare L) p)) (sym (verdict-is (bare L) p) ∙ sym (is .answer)) in
+        let short : length p ≤ L .most-bytes = ltb-false _ _ (found-none _ _ (clear (bare L) p (accepted-is .0) .not-too-many)) in
+        (is .places ∙ sym (ap (judgedPlaces p) (is .answer)) ∙ rw (le-leb (length p) greatest (omega arith)), sym (accepted-is .1))
+
+-- the list stays as long as it is
+pub judged-length : {L : Layout} {p : Bytes} {r : Answer} {after : List ℕ} → IsJudged L p r after → length after ≡ room
+judged-length {L} {p} is = rw (is .places) (go (verdict L p))
+  where
+    short : (b : Bool) → length (cond b (listed p) (replicate room 0)) ≡ room
+    short true = listed-length p
+    short false = refl
+
+    go : (v : Verdict) → length (judgedPlaces p v) ≡ room
+    go (accepted n k) = short (leb (length p) greatest)
+    go (refused r) = refl

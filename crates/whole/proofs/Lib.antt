@@ -1,0 +1,4 @@
+mod Stages
+pub mod Judging
+pub mod Shown
+pub mod OneAnswer

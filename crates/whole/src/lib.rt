@@ -1,0 +1,61 @@
+// Rules 1 to 5, over a whole payload, for every layout: its bytes, its characters, its breaks and its lines.
+use lines::Parted;
+use lines::Walked;
+use lines::clear;
+use lines::walk;
+use sieve::Answer;
+use sieve::Fault;
+use sieve::Limits;
+ghost use mathlib.Core.Path.{_≡_};
+ghost use lib.ListN.{replicate};
+ghost use Rattle.sieve.specs.Latin.{latin};
+ghost use Rattle.sieve.specs.Whole.{plain};
+ghost use Rattle.lines.specs.Listed.{room};
+ghost use Rattle.whole.specs.Judged.{IsJudged, IsParted};
+
+// A refusal leaves no places in the list.
+fn refuse(places: &mut [u16; 68], fault: Fault) -> Answer
+    ensures { λ r. ⌜ r ≡ Answer.Refused fault ⌝ }
+    ensures { λ _. ⌜ now (places .exit) ≡ replicate room 0 ⌝ }
+{
+    clear(places);
+    Answer::Refused(fault)
+}
+
+// Rules 4 and 5, by how the lines of a payload are parted.
+fn judge_breaks(payload: &[u8], parted: Parted, limits: Limits, places: &mut [u16; 68]) -> Answer
+    requires { ⌜ IsParted limits (now payload) parted (now places) ⌝ }
+    ensures { λ r. ⌜ IsJudged (plain limits latin) (now (payload .entry)) r (now (places .exit)) ⌝ }
+{
+    match parted {
+        Parted::Unlike(i) => refuse(places, Fault::MixedBreaks(i)),
+        Parted::Alike(k, n) => {
+            if (limits.fewest <= n) & (n <= limits.most) {
+                Answer::Accepted(n, k)
+            } else {
+                refuse(places, Fault::LineCount(n))
+            }
+        }
+    }
+}
+
+// What rules 1 to 5 say of any bytes, with the places of the lines of what they accept.
+pub fn whole(payload: &[u8], limits: Limits, places: &mut [u16; 68]) -> Answer
+    ensures { λ r. ⌜ IsJudged (plain limits latin) (now (payload .entry)) r (now (places .exit)) ⌝ }
+{
+    if payload.len() == 0 {
+        return refuse(places, Fault::NoBytes);
+    }
+    if limits.bytes < payload.len() {
+        return refuse(places, Fault::TooManyBytes);
+    }
+    let told = walk(payload, places);
+    let walked = told.walked;
+    match walked {
+        Walked::Bad(i, at) => Answer::Refused(Fault::BadCharacter(i, at)),
+        Walked::Clean => {
+            let parted = told.parted;
+            judge_breaks(payload, parted, limits, places)
+        }
+    }
+}

@@ -1,2 +1,0 @@
-pub mod Handing
-pub mod Writing
