@@ -453,6 +453,7 @@ second =
     ∷ bad 10 32 (put 32 "//S" (take 32 P))
     ∷ bad 10 32 (put 32 "/S1/" (take 32 P))
     ∷ bad 10 32 (put 32 "S/S1" (take 32 P))
+    ∷ bad 10 32 (put 32 "/SS1" (take 32 P))
     ∷ bad 10 32 (put 32 "S1//" (take 32 P))
     ∷ bad 10 32 (put 32 "//-1" (take 32 P))
     ∷ bad 10 32 (put 32 "//1-" (take 32 P))
