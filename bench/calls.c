@@ -1,28 +1,37 @@
-/* Makes one of the two calls for hosts again and again, for bench/run to count instructions:
+/* Makes one of the calls for hosts again and again, for bench/run to count instructions:
 
-       calls read|line TIMES < payload
+       calls read|line|places|write TIMES < record
 
    It writes the answer of a first call and then makes the call TIMES times. The line is 30. */
 
-#include <stdint.h>
-#include <stdio.h>
 #include <stdlib.h>
 
+#include "../tests/host/record.h"
 #include "qrbill.h"
 
-static uint8_t payload[1000];
-static size_t length;
+static struct record given;
 
 static uint32_t call(char kind)
 {
-    return kind == 'r' ? qrbill_read(payload, length) : qrbill_line(payload, length, 30);
+    static uint16_t list[MOST_NUMBERS];
+    static uint8_t destination[MOST_ROOM];
+    switch (kind) {
+    case 'r':
+        return qrbill_read(given.text, given.length);
+    case 'l':
+        return qrbill_line(given.text, given.length, 30);
+    case 'p':
+        return qrbill_places(given.text, given.length, list, given.numbers);
+    default:
+        return qrbill_write(given.text, given.length, given.places, given.numbers,
+                            (uint8_t)given.count, given.crlf != 0, destination, given.room);
+    }
 }
 
 int main(int argc, char **argv)
 {
-    if (argc != 3)
+    if (argc != 3 || !next_record(&given))
         return 1;
-    length = fread(payload, 1, sizeof payload, stdin);
     printf("%u\n", call(argv[1][0]));
     for (int left = atoi(argv[2]); left > 0; left--)
         call(argv[1][0]);

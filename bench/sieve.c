@@ -1,5 +1,5 @@
-/* The reader and the writer of Swiss QR-bill payloads in plain C, written for speed; sieve.h says
-   what they answer.
+/* The reader and the writer of Swiss QR-bill payloads in plain C, written for speed: the calls of
+   include/qrbill.h, which says what they answer, to compare with. Tested, not proved.
 
    One walk over the bytes notes where each line starts, and nothing else. All breaks being alike, a
    line's size is the way from its start to the next one, less a break. Then come the rules, line
@@ -7,7 +7,7 @@
    them: the characters of a line that has more bytes than its limit, and which break is unlike the
    first one. */
 
-#include "sieve.h"
+#include "qrbill.h"
 
 #include <string.h>
 
@@ -493,7 +493,7 @@ uint32_t qrbill_line(const uint8_t *payload, size_t length, uint32_t line)
     return 1000 * bill.starts[line] + size_of(&bill, line);
 }
 
-uint32_t sieve_read(const uint8_t *payload, size_t length, uint16_t *places, size_t numbers)
+uint32_t qrbill_places(const uint8_t *payload, size_t length, uint16_t *places, size_t numbers)
 {
     struct bill bill;
     uint32_t refusal = judge(payload, length, &bill);
@@ -527,8 +527,8 @@ static void join(const uint8_t *text, const uint16_t *places, size_t count, bool
     }
 }
 
-uint32_t sieve_write(const uint8_t *text, size_t length, const uint16_t *places, size_t numbers,
-                     uint8_t count, bool crlf, uint8_t *destination, size_t room)
+uint32_t qrbill_write(const uint8_t *text, size_t length, const uint16_t *places, size_t numbers,
+                      uint8_t count, bool crlf, uint8_t *destination, size_t room)
 {
     uint8_t joined[MOST_BYTES];
     struct bill bill;

@@ -1,21 +1,31 @@
-/* The reader of Swiss QR-bill payloads for programs in C, on x86-64 Linux.
+/* The reader and the writer of Swiss QR-bill payloads for programs in C, on x86-64 Linux.
 
    Link libcapi.a, which `rt staticlib capi` writes to target/staticlib.
 
-   A payload is `length` bytes at `payload`, of any content and any length. The pointer is not null,
-   not even where the length is 0. Both calls only read those bytes. They write to no memory of the
-   caller's and keep nothing between calls, so any number of threads may call them at once, also
-   with the same payload, as long as nothing changes its bytes before the calls return. */
+   What is lent. A payload is `length` bytes at `payload`, of any content and any length; a text, a
+   list and a destination are lent in the same way, a list as so many 16-bit numbers, aligned as
+   such. No pointer is null, not even where the length is 0.
+   What stays. The calls only read what is lent as const. The list of qrbill_places and the
+   destination of qrbill_write are written to only where the call succeeds, and then only in front:
+   what lies behind stays, to the last byte.
+   Overlap. What is written to lies apart from all else that is lent to the same call. What is only
+   read may overlap.
+   Threads. Nothing is kept between calls, nor shared: any number of threads may call at once, also
+   with the same payload, as long as nothing changes what is lent before the calls return. */
 
 #ifndef QRBILL_H
 #define QRBILL_H
 
+#include <stdbool.h>
 #include <stddef.h>
 #include <stdint.h>
 
 #ifdef __cplusplus
 extern "C" {
 #endif
+
+/* The numbers of a list of places: start and length in bytes of each of 34 lines. */
+#define QRBILL_NUMBERS 68
 
 /* The number of lines, 31 to 34, if the payload is accepted. If it is refused, 1000 times the
    refusal plus the line that the refusal names, below 1000. The refusals:
@@ -29,7 +39,8 @@ extern "C" {
     7  a line is not empty and must be              13  lines 30 and 32 together are over 140
                                                         characters; the line is 32
 
-   Refusals 1 and 2 name line 0. */
+   Refusals 1 and 2 name line 0. Every other call packs a refusal in the same way, so an answer of
+   1000 or more is a refusal, `answer / 1000` its number and `answer % 1000` its line. */
 uint32_t qrbill_read(const uint8_t *payload, size_t length);
 
 /* Where a line of an accepted payload stands: 1000 times its start plus its length, both in bytes
@@ -39,6 +50,31 @@ uint32_t qrbill_read(const uint8_t *payload, size_t length);
    0 if the payload is refused or `line` is not 1 to 34. No line of an accepted payload gives 0:
    line 1 is never empty, and no other starts at 0. */
 uint32_t qrbill_line(const uint8_t *payload, size_t length, uint32_t line);
+
+/* Where all lines of an accepted payload stand: start and length of each of 34 lines are the first
+   68 numbers of the list, as qrbill_line has them. The answer is the number of lines, plus 100 if
+   the breaks are CR LF.
+
+   If the payload is refused, the answer is that of qrbill_read; if it is accepted and the list has
+   fewer than 68 numbers, 15000. The list is then as it was. */
+uint32_t qrbill_places(const uint8_t *payload, size_t length, uint16_t *list, size_t numbers);
+
+/* Writes a bill of `count` lines, with LF between them or, if `crlf` is true, CR LF. Line i is the
+   part of the text that starts at number 2 (i - 1) of the list, from 0, and has as many bytes as
+   the next number says; parts may overlap, and lie in any order. What the list says of lines past
+   the count does not matter. The answer is the number of bytes, at most 997, which are the first
+   of the destination.
+
+   Else the answer is a refusal, and the destination is as it was. In this order:
+
+   15, line 0      the list has fewer than 68 numbers
+    5, the count   not 31 to 34 lines
+   14, the line    a line's part lies outside the text
+    3, the line    a line holds CR or LF
+                   what qrbill_read says of the bytes that would be written
+   15, line 0      there is less room than bytes to write */
+uint32_t qrbill_write(const uint8_t *text, size_t length, const uint16_t *list, size_t numbers,
+                      uint8_t count, bool crlf, uint8_t *destination, size_t room);
 
 #ifdef __cplusplus
 }

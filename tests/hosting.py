@@ -14,7 +14,7 @@ LAST_LINE = 35  # the host asks for lines 0 to 35
 
 
 def built_host(library: Path, folder: Path) -> Path:
-    """The host, linked to a library with the two calls of include/qrbill.h."""
+    """The host, linked to a library with the calls of include/qrbill.h."""
     return kit.linked(folder / 'host', kit.compiled(HOST, folder), library)
 
 

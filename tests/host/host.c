@@ -5,30 +5,19 @@
    then what qrbill_line answers for lines 0 to 35. It ends with status 1 where a call changed the
    payload.
 
-   A payload is laid against a wall, memory that nobody may read: a call that reads past the end of
-   the payload ends the host. */
+   A payload is laid against a wall. */
 
 #include <stdbool.h>
 #include <stdint.h>
 #include <stdio.h>
 #include <string.h>
-#include <sys/mman.h>
 
 #include "qrbill.h"
+#include "wall.h"
 
-enum { ROOM = 1 << 20, WALL = 1 << 16, LAST_LINE = 35 };
+enum { ROOM = 1 << 20, LAST_LINE = 35 };
 
 static uint8_t copy[ROOM];
-
-/* The end of a room of ROOM bytes that a wall follows; null if there is no such room. */
-static uint8_t *end_of_room(void)
-{
-    uint8_t *room = mmap(NULL, ROOM + WALL, PROT_READ | PROT_WRITE, MAP_PRIVATE | MAP_ANONYMOUS,
-                         -1, 0);
-    if (room == MAP_FAILED || mprotect(room + ROOM, WALL, PROT_NONE) != 0)
-        return NULL;
-    return room + ROOM;
-}
 
 /* Writes the line of numbers for one payload; answers false where a call changed the payload. */
 static bool answer(const uint8_t *payload, size_t length)
@@ -48,7 +37,7 @@ static bool answer(const uint8_t *payload, size_t length)
 
 int main(void)
 {
-    uint8_t *end = end_of_room();
+    uint8_t *end = end_of_room(ROOM);
     uint32_t length;
     if (end == NULL)
         return 2;

@@ -1,2 +1,2 @@
-pub mod Packing
+pub mod Read
 pub mod OneAnswer

@@ -1,5 +1,5 @@
 -- The contract of each public function leaves one answer. Assumes nothing.
-use mathlib.Core.Path.{refl, sym, _∙_}
+use mathlib.Core.Path.{refl, sym, ap, _∙_}
 use Rattle.sieve.specs.OneAnswer.{OneAnswer}
 use Rattle.capi.proofs as fn
 
@@ -8,3 +8,11 @@ one-qrbill-read κs a x y v w h k = (h ∙ sym k, refl)
 
 pub one-qrbill-line : OneAnswer fn.qrbill_line.ended fn.qrbill_line.Reads.Learnt
 one-qrbill-line κs a x y v w h k = (h ∙ sym k, refl)
+
+-- the list at exit too
+pub one-qrbill-places : OneAnswer fn.qrbill_places.ended fn.qrbill_places.Reads.Learnt
+one-qrbill-places κs a x y v w h k = (h .number ∙ sym (k .number), ap (λ d. (tt, (d, tt))) (h .lent ∙ sym (k .lent)))
+
+-- the destination at exit too
+pub one-qrbill-write : OneAnswer fn.qrbill_write.ended fn.qrbill_write.Reads.Learnt
+one-qrbill-write κs a x y v w h k = (h .number ∙ sym (k .number), ap (λ d. (tt, (tt, (tt, (tt, (d, tt)))))) (h .lent ∙ sym (k .lent)))

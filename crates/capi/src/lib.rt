@@ -1,19 +1,23 @@
-// Calls for C: the verdict on a payload as one number, and the place of a line as one number.
+// Calls for C: the verdict on a payload and the place of a line as one number each, the list of places, and the writer.
+use packing::break_for;
+use packing::packed_count;
+use packing::packed_place;
+use packing::packed_refusal;
+use reader::read;
 use sieve::Answer;
-use sieve::line_of;
-use sieve::number_of;
+use sieve::Written;
 use swiss::limits::MOST_LINES;
 use swiss_judge::judge;
 use swiss_judge::verdict;
+use writer::write;
 ghost use mathlib.Core.Path.{_≡_};
 ghost use Prim.Native.Nat.{_≤_};
 ghost use lib.ListN.{length};
 ghost use Rattle.sieve.specs.Verdict.{verdict};
 ghost use Rattle.swiss.specs.Swiss.{swiss};
-ghost use Rattle.capi.specs.Packing.{packed, packedPlace, packedLine};
-
-// What the number of a refusal, or the start of a line, is multiplied by.
-pub const SHIFT: u32 = 1000;
+ghost use Rattle.packing.specs.Packing.{packed, breakFor};
+ghost use Rattle.packing.specs.Calls.{IsPackedRead, IsPackedWritten};
+ghost use Rattle.capi.specs.Calls.{listedPlace, packedLine};
 
 // The line count of an accepted payload; of a refused one 1000 times the refusal plus the line.
 #[no_mangle]
@@ -22,17 +26,17 @@ pub extern "C" fn qrbill_read(payload: &[u8]) -> u32
 {
     match verdict(payload) {
         Answer::Accepted(n, _) => n as u32,
-        Answer::Refused(fault) => SHIFT * number_of(fault) + line_of(fault) as u32,
+        Answer::Refused(fault) => packed_refusal(fault),
     }
 }
 
 // 1000 times the start plus the length that a list of places gives for a line.
-fn packed_place(places: &[u16], line: usize) -> u32
+fn listed_place(places: &[u16], line: usize) -> u32
     requires { ⌜ (length (now places) ≡ 68) × (1 ≤ line) × (line ≤ 34) ⌝ }
-    ensures { λ r. ⌜ r ≡ packedPlace (now (places .entry)) line ⌝ }
+    ensures { λ r. ⌜ r ≡ listedPlace (now (places .entry)) line ⌝ }
 {
     let i = 2 * (line - 1);
-    SHIFT * places[i] as u32 + places[i + 1] as u32
+    packed_place(places[i], places[i + 1])
 }
 
 // 1000 times the start plus the length of a line of an accepted payload, counted from 1; 0 where the payload is refused
@@ -47,10 +51,41 @@ pub extern "C" fn qrbill_line(payload: &[u8], line: u32) -> u32
         Answer::Accepted(_, _) => {
             let n = line as usize;
             if (1 <= n) & (n <= MOST_LINES) {
-                packed_place(&places, n)
+                listed_place(&places, n)
             } else {
                 0
             }
         }
+    }
+}
+
+// The line count of an accepted payload, plus 100 for CR LF, with the places in the list's front; else 1000 times the
+// refusal plus the line, and the list is as it was.
+#[no_mangle]
+pub extern "C" fn qrbill_places(payload: &[u8], list: &mut [u16]) -> u32
+    ensures { λ r. ⌜ IsPackedRead swiss (now (payload .entry)) (now (list .entry)) r (now (list .exit)) ⌝ }
+{
+    match read(payload, list) {
+        Answer::Accepted(n, brk) => packed_count(n, brk),
+        Answer::Refused(fault) => packed_refusal(fault),
+    }
+}
+
+// How many bytes were written; else 1000 times the refusal plus the line, and the destination is as it was.
+#[no_mangle]
+pub extern "C" fn qrbill_write(
+    text: &[u8],
+    list: &[u16],
+    count: u8,
+    crlf: bool,
+    dest: &mut [u8],
+) -> u32
+    ensures { λ r.
+        ⌜ IsPackedWritten swiss (now (text .entry)) (now (list .entry)) count (breakFor crlf) (now (dest .entry)) r
+        (now (dest .exit)) ⌝ }
+{
+    match write(text, list, count as usize, break_for(crlf), dest) {
+        Written::Length(n) => n as u32,
+        Written::Refused(fault) => packed_refusal(fault),
     }
 }

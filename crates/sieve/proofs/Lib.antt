@@ -19,6 +19,7 @@ pub mod PaperLosesNothing
 pub mod ReaderPromises
 pub mod Strays
 pub mod WriterPromises
+pub mod SmallAnswers
 pub mod Together
 pub mod Room
 pub mod OneAnswer

@@ -5,3 +5,4 @@ int memcmp(const void *one, const void *two, size_t count);
 void *memcpy(void *to, const void *from, size_t count);
 void *memset(void *to, int byte, size_t count);
 size_t strlen(const char *text);
+int strncmp(const char *one, const char *two, size_t count);

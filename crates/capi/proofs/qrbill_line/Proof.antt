@@ -9,7 +9,7 @@ use Rattle.sieve.proofs.Bounds.{is-within}
 use Rattle.swiss.specs.Swiss.{swiss}
 use Rattle.whole.proofs.Judging.{judged-length}
 use Rattle.swiss_judge.proofs.Places.{all-shown}
-use Rattle.capi.specs.Packing.{packedPlace}
+use Rattle.capi.specs.Calls.{listedPlace}
 use borrow.Author.Needs.{needs}
 use Rattle.capi.proofs.qrbill_line.Statement.{statement}
 use Rattle.capi.proofs.qrbill_line.Tie as tie
@@ -26,11 +26,11 @@ enum-told c = search needs
 enum-told-2 : tie.Need-enum-told-2
 enum-told-2 c = search needs
 
-slice-aggregate-packed-place : tie.Need-slice-aggregate-packed-place
-slice-aggregate-packed-place c = sym (judged-length (c .before .before .before .before .judge .ensures))
+slice-aggregate-listed-place : tie.Need-slice-aggregate-listed-place
+slice-aggregate-listed-place c = sym (judged-length (c .before .before .before .before .judge .ensures))
 
-packed-place-requires : tie.Need-packed-place-requires
-packed-place-requires c κs =
+listed-place-requires : tie.Need-listed-place-requires
+listed-place-requires c κs =
     let at-start = c .before .before .before .before .before .before .before in
     let (least, most) = is-within 1 _ (at-start .args .line) (c .before .if1 .taken) in
     (judged-length (c .before .before .before .before .judge .ensures), least, omega (arith, most))
@@ -44,7 +44,7 @@ returns-2 : tie.Need-returns-2
 returns-2 c =
     let at-told = c .before .before .before in
     let shown = all-shown (rw (at-told .enum-told2 .given .1) at (at-told .before .before .judge .ensures)) in
-    rw (accepted-is at-told, c .before .before .if1 .taken) (c .packed-place .ensures ∙ ap (λ (l : List ℕ). packedPlace l (at-told .before .before .before .before .before .args .line)) shown)
+    rw (accepted-is at-told, c .before .before .if1 .taken) (c .listed-place .ensures ∙ ap (λ (l : List ℕ). listedPlace l (at-told .before .before .before .before .before .args .line)) shown)
 
 returns-3 : tie.Need-returns-3
 returns-3 c = rw (accepted-is (c .before), c .if1 .left)
@@ -56,8 +56,8 @@ qrbill-line-spec =
     judge-requires
     enum-told
     enum-told-2
-    slice-aggregate-packed-place
-    packed-place-requires
+    slice-aggregate-listed-place
+    listed-place-requires
     returns
     returns-2
     returns-3)

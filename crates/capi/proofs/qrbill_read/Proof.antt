@@ -1,5 +1,4 @@
--- `capi::qrbill_read` meets its contract: number and line of a verdict, packed, fit in 32 bits. Assumes nothing.
-use Rattle.sieve.proofs.Numbers.{low-number}
+-- `capi::qrbill_read` meets its contract: what a verdict names is small. Assumes nothing.
 use Rattle.swiss.proofs.Numbers.{low-line, line-count}
 use Rattle.swiss.specs.Swiss.{swiss}
 use Rattle.sieve.specs.Verdict.{accepted, refused, verdict}
@@ -10,12 +9,6 @@ use borrow.Author.Needs.{needs}
 use Rattle.capi.proofs.qrbill_read.Statement.{statement}
 use Rattle.capi.proofs.qrbill_read.Tie as tie
 
-verdict-requires : tie.Need-verdict-requires
-verdict-requires c κs = search needs
-
-enum-known-n : tie.Need-enum-known-n
-enum-known-n c = search needs
-
 -- what the answer says of the payload
 
 accepted-is : (c : tie.After-known-told) → verdict swiss (c .before .before .before .before .before .args .payload .now) ≡ accepted (c .before .n .given .0 .0) (c .before .n .given .0 .1 .0)
@@ -24,54 +17,28 @@ accepted-is c = sym (c .before .before .before .verdict .ensures) ∙ ap paper (
 refused-is : (c : tie.After-known-told2) → verdict swiss (c .before .before .before .before .before .args .payload .now) ≡ refused (paperFault (c .before .fault .given .0 .0))
 refused-is c = sym (c .before .before .before .verdict .ensures) ∙ ap paper (c .before .fault .given .1)
 
+verdict-requires : tie.Need-verdict-requires
+verdict-requires c κs = search needs
+
+enum-known-n : tie.Need-enum-known-n
+enum-known-n c = search needs
+
 cast-result : tie.Need-cast-result
-cast-result c =
-    let few = line-count _ _ _ (accepted-is c) in
-    omega arith
+cast-result c = let few = line-count _ _ _ (accepted-is c) in omega arith
 
 enum-known-fault : tie.Need-enum-known-fault
 enum-known-fault c = search needs
 
-number-of-requires : tie.Need-number-of-requires
-number-of-requires c κs = search needs
-
-mul-result : tie.Need-mul-result
-mul-result c =
-    let low = low-number (c .before .before .fault .given .0 .0) in
-    omega (arith, c .number-of .ensures)
-
-line-of-requires : tie.Need-line-of-requires
-line-of-requires c κs = search needs
-
-cast-result-2 : tie.Need-cast-result-2
-cast-result-2 c =
-    let low = low-line _ _ (refused-is (c .before .before)) in
-    omega (arith, c .line-of .ensures)
-
-add-result : tie.Need-add-result
-add-result c =
-    let low = low-line _ _ (refused-is (c .before .before)) in
-    let number = low-number (c .before .before .before .fault .given .0 .0) in
-    omega (arith, c .line-of .ensures, c .before .number-of .ensures)
+packed-refusal-requires : tie.Need-packed-refusal-requires
+packed-refusal-requires c κs = low-line _ _ (refused-is c)
 
 returns : tie.Need-returns
 returns c = rw (accepted-is c)
 
 returns-2 : tie.Need-returns-2
-returns-2 c = rw (refused-is (c .before .before), c .line-of .ensures, c .before .number-of .ensures)
+returns-2 c = rw (refused-is (c .before)) (c .packed-refusal .ensures)
 
 pub qrbill-read-spec : {M : Type 1} → statement M
 qrbill-read-spec =
     tie.close
-    (tie.spec
-    verdict-requires
-    enum-known-n
-    cast-result
-    enum-known-fault
-    number-of-requires
-    mul-result
-    line-of-requires
-    cast-result-2
-    add-result
-    returns
-    returns-2)
+    (tie.spec verdict-requires enum-known-n cast-result enum-known-fault packed-refusal-requires returns returns-2)

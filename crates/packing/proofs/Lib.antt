@@ -1,0 +1,3 @@
+pub mod Packing
+pub mod Calls
+pub mod OneAnswer

@@ -1,0 +1,52 @@
+// Answers as one number, for C. Every call packs in this one way.
+use sieve::Break;
+use sieve::Fault;
+use sieve::line_of;
+use sieve::number_of;
+ghost use mathlib.Core.Path.{_≡_};
+ghost use Prim.Native.Nat.{_<_};
+ghost use Rattle.sieve.specs.Paper.{paperFault};
+ghost use Rattle.packing.specs.Packing.{shift, packedRefusal, packedPlace, mark, packedCount, breakFor};
+
+// What the number of a refusal, or the start of a place, is multiplied by.
+const SHIFT: u32 = 1000;
+
+// 1000 times the refusal plus the line.
+pub fn packed_refusal(fault: Fault) -> u32
+    requires { ⌜ paperFault fault .line < shift ⌝ }
+    ensures { λ r. ⌜ r ≡ packedRefusal (paperFault fault) ⌝ }
+{
+    SHIFT * number_of(fault) + line_of(fault) as u32
+}
+
+// 1000 times the start plus the length.
+pub fn packed_place(start: u16, bytes: u16) -> u32
+    ensures { λ r. ⌜ r ≡ packedPlace start bytes ⌝ }
+{
+    SHIFT * start as u32 + bytes as u32
+}
+
+// What a kind of break adds to a count of lines.
+fn mark(brk: Break) -> u8
+    ensures { λ r. ⌜ r ≡ mark brk ⌝ }
+{
+    match brk {
+        Break::Lf => 0,
+        Break::CrLf => 100,
+    }
+}
+
+// A count of lines, plus 100 if their breaks are CR LF.
+pub fn packed_count(lines: usize, brk: Break) -> u32
+    requires { ⌜ lines < 100 ⌝ }
+    ensures { λ r. ⌜ r ≡ packedCount lines brk ⌝ }
+{
+    lines as u32 + mark(brk) as u32
+}
+
+// The kind of break that a flag asks for.
+pub fn break_for(crlf: bool) -> Break
+    ensures { λ r. ⌜ r ≡ breakFor crlf ⌝ }
+{
+    if crlf { Break::CrLf } else { Break::Lf }
+}

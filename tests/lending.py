@@ -1,0 +1,106 @@
+"""The C host that lends memory, over a library, and the reference beside it."""
+
+import struct
+import subprocess
+from pathlib import Path
+
+import kit
+from reference.qrbill import LIST_NUMBERS, Refused, read, write
+from records import LARGEST, MOST_NUMBERS, MOST_ROOM, record_of
+from shrinking import shrunk, told_of
+
+HOST = kit.ROOT / 'tests' / 'host' / 'lending.c'
+
+# As in lending.c.
+MARK = b'\xAA'
+RESULT = struct.Struct(f'<I{2 * MOST_NUMBERS}sI{MOST_ROOM}s')
+
+
+def built_lender(library: Path, folder: Path) -> Path:
+    """The host, linked to a library with the calls of include/qrbill.h."""
+    return kit.linked(folder / 'lending', kit.compiled(HOST, folder), library)
+
+
+def attempt(dice, payload):
+    """The lines of a payload where they lie in it; half the time with one thing changed."""
+    whole = record_of(payload)
+    places, length = list(whole.places), len(payload)
+    change = dice.below(10)
+    if change == 0:  # a list that is too short or too long
+        return whole._replace(places=(places + [7, 7])[:dice.pick([0, 67, 69, 70])])
+    if change == 1:
+        return whole._replace(count=dice.pick([0, 30, 31, 32, 33, 34, 35, 255]))
+    if change == 2:
+        number = dice.pick([0, 1, min(length, LARGEST), LARGEST])
+        places[dice.below(LIST_NUMBERS)] = number
+        return whole._replace(places=places)
+    if change == 3:
+        return whole._replace(crlf=not whole.crlf)
+    if change == 4:
+        return whole._replace(room=min(dice.pick([0, max(length - 1, 0), length]), MOST_ROOM))
+    return whole
+
+
+def lent(room, written, size):
+    """What lent room should hold, and the room in front of it: `written`, and marks."""
+    return (size - room) * MARK + written.ljust(room, MARK)
+
+
+def expected_result(given):
+    """What the host should write for a record."""
+    answer = read(given.text, len(given.places))
+    if isinstance(answer, Refused):
+        read_number, places = 1000 * answer.number + answer.line, []
+    else:
+        read_number, places = answer.lines + 100 * (answer.brk == 'CRLF'), answer.places
+    brk = 'CRLF' if given.crlf else 'LF'
+    written = write(given.text, given.places, given.count, brk, given.room)
+    if isinstance(written, Refused):
+        write_number, data = 1000 * written.number + written.line, b''
+    else:
+        write_number, data = len(written.data), written.data
+    filled = struct.pack(f'<{len(places)}H', *places)
+    return RESULT.pack(read_number, lent(2 * len(given.places), filled, 2 * MOST_NUMBERS),
+                       write_number, lent(given.room, data, MOST_ROOM))
+
+
+def results(program, records):
+    """What the host writes for each record; nothing for those that it does not come to."""
+    packed = b''.join(record.packed() for record in records)
+    ran = subprocess.run(kit.command(program), input=packed, stdout=subprocess.PIPE, check=False,
+                         env=kit.environment())
+    starts = range(0, RESULT.size * len(records), RESULT.size)
+    return [ran.stdout[start:start + RESULT.size] for start in starts]
+
+
+def differing_records(program, records):
+    """The records whose results are not the expected ones."""
+    tried = zip(records, map(expected_result, records), results(program, records))
+    return [record for record, wanted, got in tried if wanted != got]
+
+
+def smaller(record, differs):
+    """A record that still differs, with less text: if that differs too, one whose lines lie where
+    they lie in the text, with as much room more or less than that; or else with the same list."""
+    def laid_out(text):
+        room = record.room + len(text) - len(record.text)
+        return record_of(text)._replace(room=max(0, room))
+    for with_text in (laid_out, lambda text: record._replace(text=text)):
+        if differs(with_text(record.text)):
+            return with_text(shrunk(record.text, lambda text: differs(with_text(text))))
+    return record
+
+
+def shown(result):
+    """A result without the marks that were left."""
+    if len(result) < RESULT.size:
+        return 'the end'
+    read_number, places, write_number, data = RESULT.unpack(result)
+    return f'{read_number} {places.strip(MARK).hex()} {write_number} {data.strip(MARK)!r}'
+
+
+def record_described(name, program, record):
+    """A text about a record whose result is not the expected one, made smaller."""
+    small = smaller(record, lambda some: results(program, [some]) != [expected_result(some)])
+    got, = results(program, [small])
+    return f'{name}: {told_of(small, shown(expected_result(small)), shown(got))}'
