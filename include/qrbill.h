@@ -40,7 +40,8 @@ extern "C" {
                                                         characters; the line is 32
 
    Refusals 1 and 2 name line 0. Every other call packs a refusal in the same way, so an answer of
-   1000 or more is a refusal, `answer / 1000` its number and `answer % 1000` its line. */
+   1000 or more is a refusal, `answer / 1000` its number and `answer % 1000` its line. Which byte
+   refusal 3 is about, no call here tells: the program qrbill does, as does the library in Rattle. */
 uint32_t qrbill_read(const uint8_t *payload, size_t length);
 
 /* Where a line of an accepted payload stands: 1000 times its start plus its length, both in bytes

@@ -44,7 +44,8 @@ BREAK = re.compile(r'break (LF|CRLF)')
 SETTING = re.compile(r'[0-9]+:( .*)?')
 LINES = re.compile(r'lines [0-9]+')
 THEN = re.compile(r'then( .*)?')
-ANSWER = re.compile(r'accepted [0-9]+ lines (LF|CRLF)|refused [0-9]+ line [0-9]+')
+ANSWER = re.compile(r'accepted [0-9]+ lines (LF|CRLF)'
+                    r'|refused 3 line [0-9]+ byte [0-9]+|refused (?!3 )[0-9]+ line [0-9]+')
 
 SIGN = r'([^\\{}]|\\x[0-9A-Fa-f]{2}|\\\\)'
 TEXT = re.compile(r'(%s|\{%s+\*[0-9]+\})*' % (SIGN, SIGN))

@@ -46,7 +46,7 @@ def line(payload, size):
         words = [0, answer.lines, BREAK_NUMBERS[answer.brk]]
         words += answer.places + marks[LIST_NUMBERS:]
     else:
-        words = [answer.number, answer.line]
+        words = [answer.number, answer.line] + ([answer.byte] if answer.number == 3 else [])
         words += ['same'] if size < LIST_NUMBERS else marks
     return ' '.join(map(str, words)).encode() + b'\n'
 

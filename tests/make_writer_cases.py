@@ -16,7 +16,7 @@ from typing import NamedTuple
 from casefile import bill_lines, read_cases
 from chance import Dice
 from framing import framed, number
-from reference.qrbill import BREAKS, Accepted, Refused, first_bad_place, read, write
+from reference.qrbill import BREAKS, Accepted, Refused, read, write
 from stored import compared, store
 from telling import told
 
@@ -39,30 +39,11 @@ class Call(NamedTuple):
 
 # The answers.
 
-def joined_lines(call):
-    """The lines that the places give, and their bytes when they are joined."""
-    pairs = zip(call.places[:2 * call.count:2], call.places[1:2 * call.count:2])
-    lines = [call.text[start:start + length] for start, length in pairs]
-    return lines, BREAKS[call.brk].join(lines)
-
-
-def place_of_bad_character(call, line):
-    """The place, in the joined bytes, of the byte that refusal 3 speaks of: the first CR or LF
-    within the line if one is there, else the first that begins no character."""
-    lines, joined = joined_lines(call)
-    before = sum(len(text) + len(BREAKS[call.brk]) for text in lines[:line - 1])
-    for place, byte in enumerate(lines[line - 1]):
-        if byte in b'\r\n':
-            return before + place
-    return first_bad_place(joined)
-
-
 def answer(call):
     """The line that the program has to write for a call."""
     written = write(call.text, call.places, call.count, call.brk, call.room)
     if isinstance(written, Refused):
-        place = place_of_bad_character(call, written.line) if written.number == 3 else 0
-        numbers, data = [written.number, written.line, place], b''
+        numbers, data = [written.number, written.line, written.byte or 0], b''
     else:
         numbers, data = [0, len(written.data), 0], written.data
     after = data + (call.room - len(data)) * MARK
@@ -189,6 +170,11 @@ def stray_breaks():
             for stray in (b'\r', b'\n', b'\r\n'):
                 for front, back in ((b'', b'ab'), (b'a', b'b'), (b'ab', b'')):
                     yield bill({number: front + stray + back}, brk=brk, room=40)
+        last = {32: b'//S1', 33: b'a'}
+        for stray in (b'\rb', b'b\n', b'b\r\nb'):
+            yield bill(last | {34: stray}, count=34, brk=brk)
+        yield bill({1: b'SPC\n'}, {number: (0, 4) for number in (6, 7, 10)}, brk=brk)
+        yield bill({30: 'Für €\r'.encode()}, {6: (0, 3), 7: (1, 2)}, brk=brk)
         yield bill({8: b'\n', 7: b'\r'}, brk=brk)
         yield bill({32: b'//S1\n'}, count=31, brk=brk)
         yield bill({32: b'//S1\n'}, count=32, brk=brk)

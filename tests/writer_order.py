@@ -55,11 +55,11 @@ def checks_before_joining():
            attempt({}, {30: (BASE_LENGTH + 1, 0)}))
     yield ('place outside in line 31, LF in line 1', Refused(14, 31),
            attempt({1: b'SPC\n'}, {31: OUTSIDE}))
-    yield ('LF in line 8, CR in line 7', Refused(3, 7),
+    yield ('LF in line 8, CR in line 7', Refused(3, 7, 49),
            attempt({8: b'\n', 7: b'\r'}, {}))
-    yield ('CR in line 31, over 997 bytes', Refused(3, 31),
+    yield ('CR in line 31, over 997 bytes', Refused(3, 31, 1119),
            attempt({6: 998 * b'a', 31: b'EPD\r'}, {}))
-    yield ('LF in line 31, wrong line 1', Refused(3, 31),
+    yield ('LF in line 31, wrong line 1', Refused(3, 31, 134),
            attempt({1: b'SPD', 31: b'EPD\n'}, {}))
 
 
@@ -67,7 +67,7 @@ def checks_after_joining():
     """The reader's own answer, then the destination."""
     yield ('over 997 bytes, bad byte', Refused(2, 0),
            attempt({6: 998 * b'\x00'}, {}))
-    yield ('bad byte in line 30, wrong line 1', Refused(3, 30),
+    yield ('bad byte in line 30, wrong line 1', Refused(3, 30, 151),
            attempt({1: b'SPD', 30: b'\x00'}, {}, brk='CRLF'))
     yield ('over 997 bytes, no room', Refused(2, 0),
            attempt({6: 998 * b'a'}, {}, room=0))

@@ -24,9 +24,11 @@ class Accepted(NamedTuple):
 
 
 class Refused(NamedTuple):
-    """The first broken rule, and the line that the paper gives with it."""
+    """The first broken rule, and the line that the paper gives with it. Rule 3 has a byte's place
+    too: in the payload, or in the bytes that the writer's lines are joined to."""
     number: int
     line: int
+    byte: int | None = None
 
 
 class Written(NamedTuple):
@@ -75,7 +77,7 @@ def refusal_of_payload(payload):
         return Refused(2, 0)
     place = first_bad_place(payload)
     if place is not None:
-        return Refused(3, 1 + payload.count(b'\n', 0, place))
+        return Refused(3, 1 + payload.count(b'\n', 0, place), place)
     line = line_of_unlike_break(payload)
     if line is not None:
         return Refused(4, line)
@@ -297,9 +299,12 @@ def write(text: bytes, places: list, count: int, brk: str, room: int) -> Written
         if start + length > len(text):
             return Refused(14, number)
         cut.append(text[start:start + length])
+    before = 0  # bytes of the joined lines before this one
     for number, line in enumerate(cut, start=1):
-        if b'\r' in line or b'\n' in line:
-            return Refused(3, number)
+        stray = re.search(rb'[\r\n]', line)
+        if stray is not None:
+            return Refused(3, number, before + stray.start())
+        before += len(line) + len(BREAKS[brk])
     joined = BREAKS[brk].join(cut)
     answer = read(joined)
     if isinstance(answer, Refused):
@@ -315,7 +320,8 @@ def answer_text(answer):
     """The reader's answer as the program writes it."""
     if isinstance(answer, Accepted):
         return f'accepted {answer.lines} lines {answer.brk}'
-    return f'refused {answer.number} line {answer.line}'
+    byte = '' if answer.byte is None else f' byte {answer.byte}'
+    return f'refused {answer.number} line {answer.line}{byte}'
 
 
 if __name__ == '__main__':

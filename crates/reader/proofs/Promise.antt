@@ -3,6 +3,7 @@ use Prim.Native.Nat.{ℕ, _≤_, _<_}
 use native.Mathlib.Omega.{arith}
 use mathlib.Core.Bool.{Bool, true, false}
 use mathlib.Core.List.{List}
+use mathlib.Core.Option.{Option·none-ne-some}
 use mathlib.Core.Path.{_≡_, refl, sym, ap, _∙_}
 use lib.Dec.{ltb, lit≤}
 use lib.ListN.{length, drop}
@@ -11,20 +12,23 @@ use Rattle.sieve.specs.declared.Answer.{Answer}
 use Rattle.sieve.specs.declared.Answer.the-variants.{Accepted, Refused}
 use Rattle.sieve.specs.declared.Break.{Break}
 use Rattle.sieve.specs.declared.Fault.{Fault}
-use Rattle.sieve.specs.declared.Fault.the-variants.{NoRoom}
+use Rattle.sieve.specs.declared.Fault.the-variants.{BadCharacter, NoRoom}
 use Rattle.sieve.specs.Bytes.{Bytes}
+use Rattle.sieve.specs.Latin.{latin}
 use Rattle.sieve.specs.Lines.{Bill, written}
 use Rattle.sieve.specs.Paper.{paperFault}
 use Rattle.sieve.specs.Keeps.{Keeps}
 use Rattle.sieve.specs.Demand.{Is, Earliest}
+use Rattle.sieve.specs.Pointing.{BeginsNeither}
 use Rattle.sieve.specs.Writing.{handed}
 use Rattle.sieve.proofs.PaperLosesNothing.{one-answer}
+use Rattle.sieve.proofs.Pointing.{verdict-points}
 use Rattle.sieve.proofs.ReaderPromises.{accepted-no-room, accepted-reads, refused-reads, bill-reads}
 use Rattle.swiss.specs.Swiss.{swiss}
 use Rattle.swiss.proofs.Numbers.{never-14-or-15}
 use Rattle.sieve.proofs.Latin.{lawful}
 use Rattle.sieve.specs.Reading.{readOnto, readAnswer, IsRead}
-use Rattle.sieve.specs.Verdict.{under, found, Verdict, accepted, refused, verdict}
+use Rattle.sieve.specs.Verdict.{Refusal, under, underAt, found, Verdict, accepted, refused, verdict}
 
 -- one answer, and one content of the list
 pub one-reading : (p : Bytes) (list : List ℕ) (q r : Answer) (a b : List ℕ) → IsRead swiss p list q a → IsRead swiss p list r b → (q ≡ r) × (a ≡ b)
@@ -66,3 +70,13 @@ room-alone p list after h = go (verdict swiss p) refl (ltb (length list) 68) ref
     go (refused q) v b e s = absurd (omega (arith, never-14-or-15 p (under 15 0) (v ∙ s)))
     go (accepted n k) v true e s = (ltb-true _ _ e, (n, (k, v)))
     go (accepted n k) v false e s = let z : _≡_ {A = ℕ} 0 1 = cc in absurd (omega arith)
+
+-- a refusal under 3 points at a byte: the first place where neither a character nor a break begins, and its line
+pub points-at-the-byte : (p : Bytes) (list after : List ℕ) (i at : ℕ) → IsRead swiss p list (Refused (BadCharacter i at)) after → BeginsNeither latin p i at
+unfolding swiss readAnswer
+points-at-the-byte p list after i at h = go (verdict swiss p) refl (ltb (length list) 68) (sym (h .answer))
+  where
+    go : (v : Verdict) → verdict swiss p ≡ v → (b : Bool) → readOnto swiss p list v (found b (under 15 0)) .answer ≡ refused (underAt 3 i at) → BeginsNeither latin p i at
+    go (refused q) v b s = verdict-points swiss p i at (v ∙ s)
+    go (accepted n k) v true s = let r : under 15 0 ≡ underAt 3 i at = cc in absurd (Option·none-ne-some at (ap (λ (q : Refusal). q .place) r))
+    go (accepted n k) v false s = let z : _≡_ {A = ℕ} 0 1 = cc in absurd (omega arith)

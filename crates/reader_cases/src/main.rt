@@ -1,6 +1,6 @@
 // Runs the reader over the payloads on standard input, each behind its length in four bytes, the lowest first. A payload
 // has at most 4,096 bytes. Each is read three times, into lists of 68, 70 and 67 numbers, and a line is written for each
-// time: a refusal's number and line, or 0, the line count and the kind of break, 1 for LF and 2 for CR LF; then the
+// time: a refusal's number and line, and under 3 the byte's place, or 0, the line count and the kind of break, 1 for LF and 2 for CR LF; then the
 // numbers of the list. Before it is lent, each number is a mark, 60000 and its index. A list of fewer than 68 numbers
 // that all are still marks is written as `same`. A fourth line has what a viewer of the payload hands out, opened anew
 // and moved on 0, 1, 2, .. times: `+` where it is not done and `.` where it is, the length of the part that it hands
@@ -9,6 +9,7 @@ use libc::STDIN_FILENO;
 use libc::STDOUT_FILENO;
 use sieve::Answer;
 use sieve::Break;
+use sieve::Fault;
 use sieve::line_of;
 use sieve::number_of;
 ghost use Prim.Native.Nat.{_≤_, _<_};
@@ -51,6 +52,13 @@ fn write_next(n: u64) {
     io::print_decimal(STDOUT_FILENO, n);
 }
 
+fn write_place(fault: Fault) {
+    match fault {
+        Fault::BadCharacter(_, place) => write_next(place as u64),
+        _ => {}
+    }
+}
+
 fn write_answer(answer: Answer) {
     match answer {
         Answer::Accepted(count, k) => {
@@ -61,6 +69,7 @@ fn write_answer(answer: Answer) {
         Answer::Refused(fault) => {
             io::print_decimal(STDOUT_FILENO, number_of(fault) as u64);
             write_next(line_of(fault) as u64);
+            write_place(fault);
         }
     }
 }

@@ -3,13 +3,14 @@ use Prim.Native.Nat.{ℕ, _+_, _/_, _%_, _≤_, _<_}
 use native.Mathlib.Omega.{arith}
 use mathlib.Core.Bool.{Bool, true, false}
 use mathlib.Core.List.{[], _∷_, _++_, append-assoc}
+use mathlib.Core.Option.{Option, some, none, Option·getD}
 use mathlib.Core.Path.{_≡_, refl}
 use lib.ListN.{length, take, length-append}
 use lib.Seq.{length-take-le, take-append-seam}
 use lib.Dec.{ltb, lit≤}
 use borrow.Author.Tests.{lt-ltb, le-ltb, ltb-true, ltb-false}
-use Rattle.sieve.specs.Bytes.{Bytes}
-use Rattle.report.specs.Spoken.{digitByte, decimalIn, decimal}
+use Rattle.sieve.specs.Bytes.{Bytes, ascii}
+use Rattle.report.specs.Spoken.{digitByte, decimalIn, decimal, spokenPlace}
 
 -- the front of a line, and a text behind it
 pub added-in-front : (n : ℕ) (d l rest : Bytes) → n ≤ length d → take (n + length l) (take n d ++ (l ++ rest)) ≡ take n d ++ l
@@ -55,3 +56,8 @@ few-digits n h = go (ltb n 10) (ltb (n / 10) 10) refl refl
     go true b e f = rw (one-digit n (ltb-true _ _ e)) (lit≤ tt)
     go false true e f = rw (two-digits n (ltb-false _ _ e) (ltb-true _ _ f)) (lit≤ tt)
     go false false e f = rw (three-digits n (ltb-false _ _ f) h) (lit≤ tt)
+
+-- and what is said of such a place at most nine characters
+pub place-short : (place : Option ℕ) → Option·getD place 0 < 1000 → length (spokenPlace place) ≤ 9
+place-short none h = lit≤ tt
+place-short (some at) h = omega (arith, few-digits at h, length-append (ascii " byte ") (decimal at))

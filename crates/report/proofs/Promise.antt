@@ -11,17 +11,17 @@ use Rattle.sieve.specs.declared.Break.{Break}
 use Rattle.sieve.specs.declared.Break.the-variants.{Lf, CrLf}
 use Rattle.sieve.specs.Bytes.{Bytes, ascii}
 use Rattle.sieve.specs.Paper.{paper, paperFault}
-use Rattle.sieve.specs.Verdict.{under, Verdict, accepted, refused, verdict}
+use Rattle.sieve.specs.Verdict.{under, underAt, Verdict, accepted, refused, verdict}
 use Rattle.sieve.proofs.Numbers.{low-number}
 use Rattle.swiss.specs.Swiss.{swiss}
-use Rattle.swiss.proofs.Numbers.{low-line, never-14-or-15, line-count}
-use Rattle.report.specs.Spoken.{decimalIn, decimal, breakName, lineEnd, spoken, Short}
-use Rattle.report.proofs.Adding.{few-digits}
+use Rattle.swiss.proofs.Numbers.{low-line, low-place, never-14-or-15, line-count}
+use Rattle.report.specs.Spoken.{decimalIn, decimal, breakName, lineEnd, spokenPlace, spoken, Short}
+use Rattle.report.proofs.Adding.{few-digits, place-short}
 
 -- what the verdict names is below 1000
 pub short : (p : Bytes) (r : Answer) → paper r ≡ verdict swiss p → Short (paper r)
 short p (Accepted n k) e = let few = line-count p n k (sym e) in omega arith
-short p (Refused f) e = (omega (arith, low-number f), low-line p (paperFault f) (sym e))
+short p (Refused f) e = (omega (arith, low-number f), low-line p (paperFault f) (sym e), low-place p (paperFault f) (sym e))
 
 name-short : (k : Break) → length (breakName k) ≤ 4
 name-short Lf = lit≤ tt
@@ -39,15 +39,18 @@ spoken-short (accepted n k) h =
       length-append (ascii " lines ") (breakName k ++ lineEnd),
       length-append (breakName k) lineEnd,
     )
-spoken-short (refused r) h =
+spoken-short (refused r) (number, line, place) =
+    let byte = spokenPlace (r .place) in
     omega (
       arith,
-      few-digits (r .number) (h .0),
-      few-digits (r .line) (h .1),
-      length-append (ascii "refused ") (decimal (r .number) ++ (ascii " line " ++ (decimal (r .line) ++ lineEnd))),
-      length-append (decimal (r .number)) (ascii " line " ++ (decimal (r .line) ++ lineEnd)),
-      length-append (ascii " line ") (decimal (r .line) ++ lineEnd),
-      length-append (decimal (r .line)) lineEnd,
+      few-digits (r .number) number,
+      few-digits (r .line) line,
+      place-short (r .place) place,
+      length-append (ascii "refused ") (decimal (r .number) ++ (ascii " line " ++ (decimal (r .line) ++ (byte ++ lineEnd)))),
+      length-append (decimal (r .number)) (ascii " line " ++ (decimal (r .line) ++ (byte ++ lineEnd))),
+      length-append (ascii " line ") (decimal (r .line) ++ (byte ++ lineEnd)),
+      length-append (decimal (r .line)) (byte ++ lineEnd),
+      length-append byte lineEnd,
     )
 
 -- the line of any verdict fits in 32 bytes
@@ -56,9 +59,10 @@ line-fits p = spoken-short (verdict swiss p) (go (verdict swiss p) refl)
   where
     go : (v : Verdict) → verdict swiss p ≡ v → Short v
     go (accepted n k) e = let few = line-count p n k e in omega arith
-    go (refused r) e = (omega (arith, never-14-or-15 p r e), low-line p r e)
+    go (refused r) e = (omega (arith, never-14-or-15 p r e), low-line p r e, low-place p r e)
 
--- the paper's three lines
+-- the papers' lines
 pub as-printed : (spoken (accepted 31 Lf) ≡ ascii "accepted 31 lines LF" ++ lineEnd) × (spoken (accepted 31 CrLf) ≡ ascii "accepted 31 lines CRLF" ++ lineEnd) × (spoken (refused (under 11 4)) ≡ ascii "refused 11 line 4" ++ lineEnd)
+    × (spoken (refused (underAt 3 17 402)) ≡ ascii "refused 3 line 17 byte 402" ++ lineEnd)
 unfolding spoken decimal decimalIn
-as-printed = (refl, refl, refl)
+as-printed = (refl, refl, refl, refl)

@@ -2,6 +2,7 @@
 use Prim.Native.Nat.{ℕ, zero, suc, _+_, _/_, _%_, _<_}
 use mathlib.Core.Bool.{cond}
 use mathlib.Core.List.{[], _∷_, _++_}
+use mathlib.Core.Option.{Option, some, none, Option·getD}
 use lib.Dec.{ltb}
 use Rattle.sieve.specs.declared.Break.{Break}
 use Rattle.sieve.specs.declared.Break.the-variants.{Lf, CrLf}
@@ -27,11 +28,16 @@ breakName CrLf = ascii "CRLF"
 abbrev pub lineEnd : Bytes
 lineEnd = 10 ∷ []
 
+-- the place of the byte that a refusal points at, where it points at one
+abbrev pub spokenPlace : Option ℕ → Bytes
+spokenPlace none = []
+spokenPlace (some at) = ascii " byte " ++ decimal at
+
 unfoldable pub spoken : Verdict → Bytes
 spoken (accepted n k) = ascii "accepted " ++ (decimal n ++ (ascii " lines " ++ (breakName k ++ lineEnd)))
-spoken (refused r) = ascii "refused " ++ (decimal (r .number) ++ (ascii " line " ++ (decimal (r .line) ++ lineEnd)))
+spoken (refused r) = ascii "refused " ++ (decimal (r .number) ++ (ascii " line " ++ (decimal (r .line) ++ (spokenPlace (r .place) ++ lineEnd))))
 
 -- every number that is spoken has at most three digits
 abbrev pub Short : Verdict → Type 0
 Short (accepted n k) = n < 1000
-Short (refused r) = (r .number < 1000) × (r .line < 1000)
+Short (refused r) = (r .number < 1000) × (r .line < 1000) × (Option·getD (r .place) 0 < 1000)

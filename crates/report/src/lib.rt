@@ -7,6 +7,7 @@ use sieve::line_of;
 use sieve::number_of;
 use swiss_judge::verdict;
 ghost use mathlib.Core.List.{_++_};
+ghost use mathlib.Core.Option.{Option·getD};
 ghost use mathlib.Core.Path.{_≡_};
 ghost use Prim.Native.Nat.{_+_, _≤_, _<_};
 ghost use lib.ListN.{length, take};
@@ -14,7 +15,7 @@ ghost use Rattle.sieve.specs.Paper.{paper, paperFault};
 ghost use Rattle.sieve.specs.Verdict.{accepted, refused, verdict};
 ghost use Rattle.swiss.specs.Swiss.{swiss};
 ghost use Rattle.runs.specs.Laid.{fitting, overFitting};
-ghost use Rattle.report.specs.Spoken.{digitByte, decimal, spoken, Short};
+ghost use Rattle.report.specs.Spoken.{digitByte, decimal, spokenPlace, spoken, Short};
 
 // Lays a text behind the first `at` bytes of a line, and answers where it ends.
 fn add(line: &mut [u8], at: usize, text: &[u8]) -> usize
@@ -63,6 +64,22 @@ fn compose_accepted(line: &mut [u8], n: usize, k: Break) -> usize
     }
 }
 
+// The same of the place of the byte that a fault points at; nothing where it points at none.
+fn add_place(line: &mut [u8], at: usize, fault: Fault) -> usize
+    requires { ⌜ (Option·getD (paperFault fault .place) 0 < 1000) × (at + 9 ≤ length (now line)) ⌝ }
+    ensures { λ r. ⌜ r ≤ at + 9 ⌝ }
+    ensures { λ r. ⌜ r ≡ at + length (spokenPlace (paperFault fault .place)) ⌝ }
+    ensures { λ r. ⌜ take r (now (line .exit)) ≡ take at (now (line .entry)) ++ spokenPlace (paperFault fault .place) ⌝ }
+{
+    match fault {
+        Fault::BadCharacter(_, place) => {
+            let a = add(line, at, b" byte ");
+            add_number(line, a, place)
+        }
+        _ => at,
+    }
+}
+
 fn compose_refused(line: &mut [u8], fault: Fault) -> usize
     requires { ⌜ Short (refused (paperFault fault)) × (length (now line) ≡ 32) ⌝ }
     ensures { λ r. ⌜ r ≤ 32 ⌝ }
@@ -72,7 +89,8 @@ fn compose_refused(line: &mut [u8], fault: Fault) -> usize
     let b = add_number(line, a, number_of(fault) as usize);
     let c = add(line, b, b" line ");
     let d = add_number(line, c, line_of(fault));
-    add(line, d, b"\n")
+    let e = add_place(line, d, fault);
+    add(line, e, b"\n")
 }
 
 fn compose(line: &mut [u8], answer: Answer) -> usize

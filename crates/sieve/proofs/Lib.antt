@@ -20,6 +20,7 @@ pub mod ReaderPromises
 pub mod Strays
 pub mod WriterPromises
 pub mod SmallAnswers
+pub mod Pointing
 pub mod Together
 pub mod Room
 pub mod OneAnswer

@@ -1,9 +1,9 @@
--- What a verdict names is small: a refusal's line is below 1000, its number at most 13, and a bill has as many lines as its layout allows. Assumes nothing.
+-- What a verdict names is small: a refusal's line and its byte's place are below 1000, its number at most 13, and a bill has as many lines as its layout allows. Assumes nothing.
 use Prim.Native.Nat.{ℕ, _+_, _≤_, _<_}
 use native.Mathlib.Omega.{arith}
 use mathlib.Core.Bool.{Bool, true, false, _&&_, not, and-eq-true-iff}
 use mathlib.Core.List.{List, [], _∷_, _++_, map}
-use mathlib.Core.Option.{Option, some, none, Option·map, Option·none-ne-some}
+use mathlib.Core.Option.{Option, some, none, Option·map, Option·getD, Option·none-ne-some}
 use mathlib.Core.Path.{_≡_, refl, sym, ap, _∙_}
 use lib.Dec.{eqb, ltb, leb, lit≤}
 use lib.ListN.{length, take, length-map, length-append, length-take}
@@ -22,6 +22,7 @@ use Rattle.sieve.proofs.Cutting.{break-length}
 use Rattle.sieve.proofs.DemandThree.{any-bytes}
 use Rattle.sieve.proofs.Findings.{settled-refuses, verdict-is, such-within}
 use Rattle.sieve.proofs.LineFeeds.{feeds-few}
+use Rattle.sieve.proofs.Walking.{bad-within}
 
 -- what is found is so
 abbrev pub Each : (Refusal → Type 0) → Option Refusal → Type 0
@@ -36,10 +37,11 @@ pub each-found : (P : Refusal → Type 0) (b : Bool) (q : Refusal) → P q → E
 each-found P true q h r e = let s : q ≡ r = cc in rw (← s) h
 each-found P false q h r e = let z : _≡_ {A = ℕ} 0 1 = cc in absurd (omega arith)
 
--- a line below 1000, and a number that a verdict may have: 14 and 15 are none
+-- a line and a place below 1000, and a number that a verdict may have: 14 and 15 are none
 pub record Small (r : Refusal) : Type 0 where
   pub line : r .line < 1000
   pub number : r .number ≤ 13
+  pub place : Option·getD (r .place) 0 < 1000
 
 -- rules about lines name a line of the bill, and have a number of the sieve
 
@@ -53,7 +55,7 @@ rules-small ls [] h = λ r e. absurd (Option·none-ne-some r e)
 rules-small ls (q ∷ rs) h =
     let (a, b) = and-eq-true-iff _ _ .0 h in
     let (line, number) = and-eq-true-iff _ _ .0 a in
-    each-first (aboutLines ls q) (map (aboutLines ls) rs) (each-found Small (q .broken ls) (under (q .number) (q .line)) (record { line = ltb-true _ _ line; number = leb-true _ _ number })) (rules-small ls rs b)
+    each-first (aboutLines ls q) (map (aboutLines ls) rs) (each-found Small (q .broken ls) (under (q .number) (q .line)) (record { line = ltb-true _ _ line; number = leb-true _ _ number; place = lit≤ tt })) (rules-small ls rs b)
 
 -- a payload has no more breaks than bytes
 
@@ -78,11 +80,13 @@ module _ (L : Layout) (few : L .most-bytes < 999) (small : smallRules (L .rules)
 
   module _ (short : length p ≤ L .most-bytes) where
     small-character : Each Small (badCharacter L p ls)
-    small-character r e = go (badPlace (L .width ls) p) e
+    small-character r e = go (badPlace (L .width ls) p) refl e
       where
-        go : (o : Option ℕ) → Option·map (λ at. underAt 3 (1 + lineFeeds (take at p)) at) o ≡ some r → Small r
-        go none h = absurd (Option·none-ne-some r h)
-        go (some at) h = let s : underAt 3 (1 + lineFeeds (take at p)) at ≡ r = cc in rw (← s) (record { line = omega (arith, feeds-few (take at p), length-take at p); number = lit≤ tt })
+        go : (o : Option ℕ) → badPlace (L .width ls) p ≡ o → Option·map (λ at. underAt 3 (1 + lineFeeds (take at p)) at) o ≡ some r → Small r
+        go none f h = absurd (Option·none-ne-some r h)
+        go (some at) f h =
+            let s : underAt 3 (1 + lineFeeds (take at p)) at ≡ r = cc in
+            rw (← s) (record { line = omega (arith, feeds-few (take at p), length-take at p); number = lit≤ tt; place = omega (arith, bad-within _ p at f) })
 
     small-breaks : Each Small (mixedBreaks (breaksOf (cut p)))
     small-breaks r e = go (firstSuch (λ k. not (sameBreak (kind (breaksOf (cut p))) k)) 1 (breaksOf (cut p))) refl e
@@ -91,12 +95,12 @@ module _ (L : Layout) (few : L .most-bytes < 999) (small : smallRules (L .rules)
         go none f h = absurd (Option·none-ne-some r h)
         go (some i) f h =
             let s : under 4 i ≡ r = cc in
-            rw (← s) (record { line = omega (arith, few-breaks p, such-within _ 1 (breaksOf (cut p)) i f, length-map (cut p .rest) (λ (n : Next). n .break)); number = lit≤ tt })
+            rw (← s) (record { line = omega (arith, few-breaks p, such-within _ 1 (breaksOf (cut p)) i f, length-map (cut p .rest) (λ (n : Next). n .break)); number = lit≤ tt; place = lit≤ tt })
 
     small-count : Each Small (lineCount L ls)
     small-count =
         each-found Small (not (within (L .fewest-lines) (L .most-lines) (length ls))) (under 5 (length ls))
-        (record { line = omega (arith, few-breaks p, length-map (cut p .rest) (λ (n : Next). n .line)); number = lit≤ tt })
+        (record { line = omega (arith, few-breaks p, length-map (cut p .rest) (λ (n : Next). n .line)); number = lit≤ tt; place = lit≤ tt })
 
   abbrev later : List (Option Refusal)
   later = badCharacter L p ls ∷ mixedBreaks (breaksOf (cut p)) ∷ lineCount L ls ∷ map (aboutLines ls) (L .rules)
@@ -109,12 +113,12 @@ module _ (L : Layout) (few : L .most-bytes < 999) (small : smallRules (L .rules)
   small-bytes = go (ltb (L .most-bytes) (length p)) refl
     where
       go : (b : Bool) → ltb (L .most-bytes) (length p) ≡ b → Each Small (first (found b (under 2 0) ∷ later))
-      go true e = λ r h. let s : under 2 0 ≡ r = cc in rw (← s) (record { line = lit≤ tt; number = lit≤ tt })
+      go true e = λ r h. let s : under 2 0 ≡ r = cc in rw (← s) (record { line = lit≤ tt; number = lit≤ tt; place = lit≤ tt })
       go false e = small-later (ltb-false _ _ e)
 
   pub small-findings : Each Small (first (findings L p))
   unfolding findings
-  small-findings = each-first (noBytes p) _ (each-found Small (eqb (length p) 0) (under 1 0) (record { line = lit≤ tt; number = lit≤ tt })) small-bytes
+  small-findings = each-first (noBytes p) _ (each-found Small (eqb (length p) 0) (under 1 0) (record { line = lit≤ tt; number = lit≤ tt; place = lit≤ tt })) small-bytes
 
   -- what a verdict names
   pub small-verdict : (r : Refusal) → verdict L p ≡ refused r → Small r

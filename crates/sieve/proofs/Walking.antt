@@ -1,5 +1,5 @@
 -- The walk: it passes a run of characters and breaks, finds no bad place exactly where each line is text, and stops at the first bad place. Assumes nothing.
-use Prim.Native.Nat.{ℕ, zero, suc, _+_}
+use Prim.Native.Nat.{ℕ, zero, suc, _+_, _<_}
 use native.Mathlib.Nat.{suc-ne-zero, add-zero}
 use native.Mathlib.Omega.{arith}
 use mathlib.Core.List.{List, [], _∷_, _++_, map, append-nil, append-assoc, cons≢nil, List·Memᴰ, List·Memᴰ·head, List·Memᴰ·tail, List·Memᴰ·not-nil, List·Memᴰ·cases-cons}
@@ -196,7 +196,18 @@ stops w zero (x ∷ s) i j h = go (passes w (x ∷ s)) refl (λ n. stops w n s (
           place = omega (arith, r .place, length-append (r .skipped) (r .run));
         }
 
+pub some-bytes : (s : Bytes) → s ≢ [] → 0 < length s
+some-bytes [] h = absurd (h refl)
+some-bytes (x ∷ s) h = omega arith
+
 pub walk-stops : (w : Width) (s : Bytes) (i : ℕ) → s ≢ [] → passes w s ≡ 0 → walk w 0 s i ≡ some i
 unfolding walk
 walk-stops w [] i h e = absurd (h refl)
 walk-stops w (x ∷ s) i h e = rw (e, walk)
+
+-- it stops inside
+pub bad-within : (w : Width) (p : Bytes) (at : ℕ) → badPlace w p ≡ some at → at < length p
+unfolding badPlace
+bad-within w p at h =
+    let s = stops w 0 p 0 at h in
+    omega (arith, s .place, ap length (s .whole), length-append (s .skipped) (s .run ++ s .bad), length-append (s .run) (s .bad), some-bytes (s .bad) (s .more))

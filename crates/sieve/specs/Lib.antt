@@ -14,6 +14,7 @@ pub mod Paper
 pub mod Places
 pub mod Reading
 pub mod Writing
+pub mod Pointing
 pub mod Lawful
 pub mod Keeps
 pub mod Breaks

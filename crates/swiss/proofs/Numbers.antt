@@ -2,6 +2,7 @@
 use Prim.Native.Nat.{ℕ, _≤_, _<_}
 use mathlib.Core.Bool.{true}
 use mathlib.Core.List.{List, flatten}
+use mathlib.Core.Option.{Option·getD}
 use mathlib.Core.Path.{_≡_, refl}
 use lib.Dec.{lit≤}
 use Rattle.sieve.specs.declared.Answer.{Answer}
@@ -32,6 +33,10 @@ small-findings = sieve.small-findings swiss (lit≤ tt) small-rules
 pub low-line : (p : Bytes) (r : Refusal) → verdict swiss p ≡ refused r → r .line < 1000
 unfolding swiss
 low-line p r h = sieve.small-verdict swiss (lit≤ tt) small-rules p r h .line
+
+pub low-place : (p : Bytes) (r : Refusal) → verdict swiss p ≡ refused r → Option·getD (r .place) 0 < 1000
+unfolding swiss
+low-place p r h = sieve.small-verdict swiss (lit≤ tt) small-rules p r h .place
 
 -- no verdict is 14 or 15
 pub never-14-or-15 : (p : Bytes) (r : Refusal) → verdict swiss p ≡ refused r → r .number ≤ 13

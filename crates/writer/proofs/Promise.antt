@@ -1,25 +1,30 @@
 -- What a user of the writer may rely on, stated on its contract. Assumes nothing.
 use Prim.Native.Nat.{ℕ, _≤_, _<_}
 use mathlib.Core.List.{List, _++_}
+use mathlib.Core.Logic.{_⊎_}
+use mathlib.Core.Option.{none}
 use mathlib.Core.Path.{_≡_, sym, ap, _∙_}
 use lib.ListN.{length, take, drop}
 use Rattle.sieve.specs.declared.Answer.{Answer}
 use Rattle.sieve.specs.declared.Answer.the-variants.{Accepted}
 use Rattle.sieve.specs.declared.Break.{Break}
 use Rattle.sieve.specs.declared.Fault.{Fault}
-use Rattle.sieve.specs.declared.Fault.the-variants.{NoRoom}
+use Rattle.sieve.specs.declared.Fault.the-variants.{BadCharacter, NoRoom}
 use Rattle.sieve.specs.declared.Written.{Written}
 use Rattle.sieve.specs.declared.Written.the-variants.{Length, Refused}
 use Rattle.sieve.specs.Bytes.{Bytes, over}
-use Rattle.sieve.specs.Lines.{Bill, written, billOf}
+use Rattle.sieve.specs.Latin.{latin}
+use Rattle.sieve.specs.Lines.{Bill, joined, written, billOf}
 use Rattle.sieve.specs.Verdict.{accepted, verdict}
 use Rattle.sieve.specs.Paper.{paperFault}
-use Rattle.sieve.specs.Places.{placesOf}
+use Rattle.sieve.specs.Places.{placed, placesOf}
+use Rattle.sieve.specs.Pointing.{BeginsNeither, HoldsBreak}
 use Rattle.sieve.specs.Keeps.{Keeps}
 use Rattle.sieve.specs.Reading.{IsRead}
-use Rattle.sieve.specs.Writing.{spans, handed, IsWritten}
+use Rattle.sieve.specs.Writing.{spans, handed, strayBreak, IsWritten}
 use Rattle.sieve.proofs.PaperLosesNothing.{one-written}
 use Rattle.sieve.proofs.WriterPromises.{handedBill, NoneOutside, laid-written, laid-accepted, refused-unchanged, bill-laid, bill-not-laid, round-trip}
+use Rattle.sieve.proofs.Pointing.{writer-points, in-joined}
 use Rattle.sieve.proofs.Room.{Short, short-alone}
 use Rattle.sieve.proofs.Together as together
 use Rattle.swiss.specs.Swiss.{swiss}
@@ -93,3 +98,11 @@ pub written-then-read : {text dest end : Bytes} {list other after : List ℕ} {c
     → IsRead swiss (take n end) other r after → (r ≡ Accepted count k) × (handed (take n end) after count ≡ handed text list count)
 unfolding swiss
 written-then-read = together.written-then-read swiss (suits .lawful) (suits .two)
+
+-- a refusal under 3 points at a byte of the joined lines: at a CR or LF that the line given holds; or, where no line holds any, at what the reader finds in them
+pub points-at-the-byte : (text : Bytes) (list : List ℕ) (count : ℕ) (k : Break) (dest after : Bytes) (i at : ℕ) → IsWritten swiss text list count k dest (Refused (BadCharacter i at)) after
+    → let ls = handed text list count in (at < length (joined k ls)) × (HoldsBreak k ls i at ⊎ ((strayBreak 1 (placed 0 k ls) ≡ none) × BeginsNeither latin (joined k ls) i at))
+unfolding swiss
+points-at-the-byte text list count k dest after i at h =
+    let points = writer-points swiss text list count k dest i at (sym (h .answer)) in
+    (in-joined swiss text list count k dest i at points, points)

@@ -4,7 +4,8 @@ use native.Mathlib.Omega.{arith}
 use mathlib.Core.List.{_++_, append-assoc}
 use mathlib.Core.Path.{_≡_, _∙_}
 use Rattle.sieve.specs.Bytes.{Bytes, ascii}
-use Rattle.report.specs.Spoken.{decimal, lineEnd, spoken}
+use Rattle.sieve.specs.Paper.{paperFault}
+use Rattle.report.specs.Spoken.{decimal, lineEnd, spokenPlace, spoken}
 use Rattle.report.proofs.Adding.{begun, more, few-digits}
 use borrow.Author.Needs.{needs}
 use Rattle.report.proofs.compose_refused.Statement.{statement}
@@ -52,37 +53,52 @@ add-number-requires-2 c κs =
     let at-start = c .before .before .before .before .before .before .before .before .before .before .before .before .before .before .before .before .before .before in
     (rw (c .line-of .ensures) (at-start .pre .0 .1), omega (arith, upto-line (c .before .before), at-start .pre .1))
 
+-- the line too
+upto-place : (c : tie.After-slice-known5) → c .before .before .add-number2 .result ≤ 20
+upto-place c =
+    let at-line-of = c .before .before .before in
+    let (_, line, _) = at-line-of .before .before .before .before .before .before .before .before .before .before .before .before .before .before .before .before .before .before .pre .0 in
+    omega (arith, upto-line (c .before .before .before .before .before), c .before .before .add-number2 .ensures .0, few-digits (at-line-of .line-of .result) (rw (at-line-of .line-of .ensures) line))
+
+add-place-requires : tie.Need-add-place-requires
+add-place-requires c κs =
+    let at-start = c .before .before .before .before .before .before .before .before .before .before .before .before .before .before .before .before .before .before .before .before .before .before in
+    let (_, _, place) = at-start .pre .0 in
+    (omega (arith, place), omega (arith, upto-place (c .before), at-start .pre .1))
+
 slice-aggregate-add-3 : tie.Need-slice-aggregate-add-3
 slice-aggregate-add-3 c = search needs
 
 add-requires-3 : tie.Need-add-requires-3
 add-requires-3 c κs =
-    let at-start = c .before .before .before .before .before .before .before .before .before .before .before .before .before .before .before .before .before .before .before .before .before .before .before in
-    omega (arith, upto-line (c .before .before .before .before .before .before .before), c .before .before .before .before .add-number2 .ensures .0, few-digits (c .before .before .before .before .before .line-of .result) (rw (c .before .before .before .before .before .line-of .ensures) (at-start .pre .0 .1)), at-start .pre .1)
+    let at-start = c .before .before .before .before .before .before .before .before .before .before .before .before .before .before .before .before .before .before .before .before .before .before .before .before .before .before .before in
+    omega (arith, upto-place (c .before .before .before .before .before .before), c .before .before .before .before .add-place .ensures .0, at-start .pre .1)
 
 same-length : tie.Need-same-length
 same-length c = search needs
 
--- five texts, one behind the other
-five : (a b c d e : Bytes) → (((a ++ b) ++ c) ++ d) ++ e ≡ a ++ (b ++ (c ++ (d ++ e)))
-five a b c d e = append-assoc ((a ++ b) ++ c) d e ∙ append-assoc (a ++ b) c (d ++ e) ∙ append-assoc a b (c ++ (d ++ e))
+-- six texts, one behind the other
+six : (a b c d e f : Bytes) → ((((a ++ b) ++ c) ++ d) ++ e) ++ f ≡ a ++ (b ++ (c ++ (d ++ (e ++ f))))
+six a b c d e f = append-assoc (((a ++ b) ++ c) ++ d) e f ∙ append-assoc ((a ++ b) ++ c) d (e ++ f) ∙ append-assoc (a ++ b) c (d ++ (e ++ f)) ∙ append-assoc a b (c ++ (d ++ (e ++ f)))
 
 returns : tie.Need-returns
 unfolding spoken
 returns c =
-    let at-add-number-2 = c .before .before .before .before .before .before .before in
+    let at-add-place = c .before .before .before .before .before .before .before in
+    let at-add-number-2 = at-add-place .before .before .before .before in
     let at-line-of = at-add-number-2 .before in
     let at-add-2 = at-line-of .before .before .before .before in
     let at-add-number = at-add-2 .before .before .before .before .before in
     let at-number-of = at-add-number .before in
     let at-add = at-number-of .before .before .before .before in
+    let at-start = at-add .before .before .before .before in
     let line = at-line-of .line-of in
     let number = at-number-of .number-of in
-    let a = c .before .before .before .before .before .before .before .before .before .before .before .before .before .before .before .before .before .before .before .before .before .before .before .before .before .before in
-    let s = more lineEnd (more (decimal (line .result)) (more (ascii " line ") (more (decimal (number .result)) (begun (ascii "refused ") (at-add .add .ensures)) (at-add-number .add-number .ensures)) (at-add-2 .add2 .ensures)) (at-add-number-2 .add-number2 .ensures)) (c .before .before .add3 .ensures) in (
-      omega (arith, c .before .before .add3 .ensures .0, at-add-number-2 .add-number2 .ensures .0, upto-line (c .before .before .before .before .before .before .before .before .before .before), few-digits (line .result) (rw (line .ensures) (a .pre .0 .1))),
-      s .text ∙ five (ascii "refused ") (decimal (number .result)) (ascii " line ") (decimal (line .result)) lineEnd ∙ rw (line .ensures, number .ensures),
+    let place = paperFault (at-start .args .fault) .place in
+    let s = more lineEnd (more (spokenPlace place) (more (decimal (line .result)) (more (ascii " line ") (more (decimal (number .result)) (begun (ascii "refused ") (at-add .add .ensures)) (at-add-number .add-number .ensures)) (at-add-2 .add2 .ensures)) (at-add-number-2 .add-number2 .ensures)) (at-add-place .add-place .ensures .1)) (c .before .before .add3 .ensures) in (
+      omega (arith, c .before .before .add3 .ensures .0, at-add-place .add-place .ensures .0, upto-place (c .before .before .before .before .before .before .before .before .before)),
+      s .text ∙ six (ascii "refused ") (decimal (number .result)) (ascii " line ") (decimal (line .result)) (spokenPlace place) lineEnd ∙ rw (line .ensures, number .ensures),
     )
 
 pub compose-refused-spec : {M : Type 1} → statement M
-compose-refused-spec = tie.close (tie.spec slice-aggregate-add add-requires number-of-requires cast-add-number add-number-requires slice-aggregate-add-2 add-requires-2 line-of-requires add-number-requires-2 slice-aggregate-add-3 add-requires-3 same-length returns)
+compose-refused-spec = tie.close (tie.spec slice-aggregate-add add-requires number-of-requires cast-add-number add-number-requires slice-aggregate-add-2 add-requires-2 line-of-requires add-number-requires-2 add-place-requires slice-aggregate-add-3 add-requires-3 same-length returns)
