@@ -1,6 +1,6 @@
 /* Makes one of the calls for hosts again and again, for bench/run to count instructions:
 
-       calls read|line|places|write TIMES < record
+       calls read|line|places|glance|write TIMES < record
 
    It writes the answer of a first call and then makes the call TIMES times. The line is 30. */
 
@@ -22,6 +22,8 @@ static uint32_t call(char kind)
         return qrbill_line(given.text, given.length, 30);
     case 'p':
         return qrbill_places(given.text, given.length, list, given.numbers);
+    case 'g':
+        return qrbill_glance(given.text, given.length);
     default:
         return qrbill_write(given.text, given.length, given.places, given.numbers,
                             (uint8_t)given.count, given.crlf != 0, destination, given.room);

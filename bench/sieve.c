@@ -512,6 +512,44 @@ uint32_t qrbill_places(const uint8_t *payload, size_t length, uint16_t *places, 
     return bill.count + (bill.width == 2 ? 100 : 0);
 }
 
+/* The glance. */
+
+enum { LOOKED = 37, IBAN_SIZE = 21 };
+
+/* How many bytes the break has that begins here; 0 where none begins. */
+static inline size_t break_at(const uint8_t *at, const uint8_t *end)
+{
+    if (at < end && *at == '\n')
+        return 1;
+    return end - at > 1 && at[0] == '\r' && at[1] == '\n' ? 2 : 0;
+}
+
+/* What comes after a fixed text and a break; null where they are not there. */
+static inline const uint8_t *after(const uint8_t *at, const uint8_t *end, const char *text,
+                                   size_t size)
+{
+    if ((size_t)(end - at) < size || memcmp(at, text, size) != 0)
+        return NULL;
+    size_t width = break_at(at + size, end);
+    return width == 0 ? NULL : at + size + width;
+}
+
+uint32_t qrbill_glance(const uint8_t *payload, size_t length)
+{
+    const uint8_t *end = payload + (length < LOOKED ? length : LOOKED);
+    const uint8_t *at = after(payload, end, "SPC", 3);
+    if (at != NULL)
+        at = after(at, end, "0200", 4);
+    if (at != NULL)
+        at = after(at, end, "1", 1);
+    if (at == NULL || end - at < IBAN_SIZE)
+        return 0;
+    const uint8_t *stop = at + IBAN_SIZE;
+    if (break_at(stop, end) == 0 && (stop < end || length > LOOKED))
+        return 0;
+    return broken_on_iban(at) != 0 ? 0 : (uint32_t)(1000 * (at - payload) + IBAN_SIZE);
+}
+
 /* The writer. */
 
 /* Lays lines of a text one after another, with breaks between them. */

@@ -60,6 +60,13 @@ uint32_t qrbill_line(const uint8_t *payload, size_t length, uint32_t line);
    fewer than 68 numbers, 15000. The list is then as it was. */
 uint32_t qrbill_places(const uint8_t *payload, size_t length, uint16_t *list, size_t numbers);
 
+/* Where the IBAN stands, at a glance: 1000 times its start plus its length, or 0 for not known. It
+   looks at the first 37 bytes and at whether there are more, however long the payload is: lines 1 to
+   4 are there, each ended by a break of either kind or by the end of the payload, and break none of
+   the rules 6, 8, 10 and 11. What comes after them may be anything, so the payload may still be
+   refused; but the IBAN of a payload that is accepted is always given. */
+uint32_t qrbill_glance(const uint8_t *payload, size_t length);
+
 /* Writes a bill of `count` lines, with LF between them or, if `crlf` is true, CR LF. Line i is the
    part of the text that starts at number 2 (i - 1) of the list, from 0, and has as many bytes as
    the next number says; parts may overlap, and lie in any order. What the list says of lines past

@@ -6,6 +6,7 @@ from pathlib import Path
 
 import kit
 from framing import framed
+from reference.glance import glance
 from reference.qrbill import Refused, read
 from shrinking import difference
 
@@ -41,6 +42,8 @@ def expected_line(payload):
         starts, lengths = answer.places[::2], answer.places[1::2]
         places = [1000 * start + length for start, length in zip(starts, lengths)]
         numbers = [answer.lines, 0, *places, 0]
+    found = glance(payload)
+    numbers.append(1000 * found.start + found.length if found else 0)
     return ' '.join(map(str, numbers))
 
 

@@ -2,7 +2,7 @@
 
    Standard input is a row of records: a length of four bytes, the lowest first as x86-64 has it,
    and a payload of that length. For each record the host writes one line: what qrbill_read answers,
-   then what qrbill_line answers for lines 0 to 35. It ends with status 1 where a call changed the
+   then what qrbill_line answers for lines 0 to 35, then what qrbill_glance answers. It ends with status 1 where a call changed the
    payload.
 
    A payload is laid against a wall. */
@@ -30,7 +30,9 @@ static bool answer(const uint8_t *payload, size_t length)
         if (memcmp(payload, copy, length) != 0)
             return false;
     }
-    printf("\n");
+    printf(" %u\n", qrbill_glance(payload, length));
+    if (memcmp(payload, copy, length) != 0)
+        return false;
     fflush(stdout); /* so that the last line is there if the next payload ends the host */
     return true;
 }

@@ -9,6 +9,9 @@ one-qrbill-read κs a x y v w h k = (h ∙ sym k, refl)
 pub one-qrbill-line : OneAnswer fn.qrbill_line.ended fn.qrbill_line.Reads.Learnt
 one-qrbill-line κs a x y v w h k = (h ∙ sym k, refl)
 
+pub one-qrbill-glance : OneAnswer fn.qrbill_glance.ended fn.qrbill_glance.Reads.Learnt
+one-qrbill-glance κs a x y v w h k = (h ∙ sym k, refl)
+
 -- the list at exit too
 pub one-qrbill-places : OneAnswer fn.qrbill_places.ended fn.qrbill_places.Reads.Learnt
 one-qrbill-places κs a x y v w h k = (h .number ∙ sym (k .number), ap (λ d. (tt, (d, tt))) (h .lent ∙ sym (k .lent)))

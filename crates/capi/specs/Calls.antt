@@ -1,4 +1,4 @@
--- What the calls for C answer of a line. Assumes nothing.
+-- What the calls for C answer of a line, and of the account. Assumes nothing.
 use Prim.Native.Nat.{ℕ, _+_, _-_, _*_}
 use mathlib.Core.Bool.{cond}
 use mathlib.Core.List.{List}
@@ -9,6 +9,8 @@ use Rattle.sieve.specs.Verdict.{Verdict, accepted, refused}
 use Rattle.sieve.specs.Places.{placesOf}
 use Rattle.swiss.specs.Limits.{mostLines}
 use Rattle.swiss.specs.Swiss.{swiss}
+use Rattle.glance.specs.declared.Account.{Account}
+use Rattle.glance.specs.declared.Account.the-variants.{Unknown, At}
 use Rattle.packing.specs.Packing.{packedPlace}
 
 -- the place of line i in a list of places
@@ -19,3 +21,8 @@ listedPlace places i = packedPlace (getD places (2 * (i - 1)) 0) (getD places (2
 abbrev pub packedLine : Bytes → ℕ → Verdict → ℕ
 packedLine p i (refused r) = 0
 packedLine p i (accepted n k) = cond (within 1 mostLines i) (listedPlace (placesOf swiss (billOf p)) i) 0
+
+-- where the account stands; 0 where it is not known
+abbrev pub packedAccount : Account → ℕ
+packedAccount Unknown = 0
+packedAccount (At start bytes) = packedPlace start bytes

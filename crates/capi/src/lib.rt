@@ -1,4 +1,7 @@
-// Calls for C: the verdict on a payload and the place of a line as one number each, the list of places, and the writer.
+// Calls for C: the verdict on a payload and the place of a line as one number each, the list of places, the account at a
+// glance, and the writer.
+use glance::Account;
+use glance::glance;
 use packing::break_for;
 use packing::packed_count;
 use packing::packed_place;
@@ -17,7 +20,8 @@ ghost use Rattle.sieve.specs.Verdict.{verdict};
 ghost use Rattle.swiss.specs.Swiss.{swiss};
 ghost use Rattle.packing.specs.Packing.{packed, breakFor};
 ghost use Rattle.packing.specs.Calls.{IsPackedRead, IsPackedWritten};
-ghost use Rattle.capi.specs.Calls.{listedPlace, packedLine};
+ghost use Rattle.glance.specs.Glance.{glance, accountAs};
+ghost use Rattle.capi.specs.Calls.{listedPlace, packedLine, packedAccount};
 
 // The line count of an accepted payload; of a refused one 1000 times the refusal plus the line.
 #[no_mangle]
@@ -68,6 +72,17 @@ pub extern "C" fn qrbill_places(payload: &[u8], list: &mut [u16]) -> u32
     match read(payload, list) {
         Answer::Accepted(n, brk) => packed_count(n, brk),
         Answer::Refused(fault) => packed_refusal(fault),
+    }
+}
+
+// 1000 times the start plus the length of the IBAN, by the first 37 bytes; 0 where it is not known.
+#[no_mangle]
+pub extern "C" fn qrbill_glance(payload: &[u8]) -> u32
+    ensures { λ r. ⌜ r ≡ packedAccount (accountAs (glance (now (payload .entry)))) ⌝ }
+{
+    match glance(payload) {
+        Account::At(start, bytes) => packed_place(start as u16, bytes as u16),
+        Account::Unknown => 0,
     }
 }
 

@@ -1,0 +1,9 @@
+pub mod Kept
+pub mod LineAfter
+pub mod FourLines
+pub mod Looking
+pub mod Leading
+pub mod Lying
+pub mod Beginning
+pub mod Promise
+pub mod OneAnswer
