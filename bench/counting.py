@@ -1,4 +1,9 @@
-"""How many instructions a program runs, counted one by one: the same number in each run.
+"""How many instructions a call takes, counted one by one: the same number in each run.
+
+A program has the kind of call and a number as its words, and the data as its standard input. It
+makes a first call, says what that answers, and makes the call so many times more. It is run with
+TIMES and with 0; the difference, divided by TIMES, is the count. It holds about ten instructions of
+the loop around the call.
 
 On Arm the kit's emulator translates one instruction at a time and notes each that it runs. On
 x86-64 the program is stepped from instruction to instruction (ptrace). In both ways an instruction
@@ -13,8 +18,22 @@ from pathlib import Path
 
 import kit
 
+TIMES = 10
 PTRACE_TRACEME, PTRACE_SINGLESTEP = 0, 9
 ADDR_NO_RANDOMIZE = 0x40000
+
+
+def answer(program, kind, data):
+    """What the program says that the call answers."""
+    return subprocess.run(kit.command(program, kind, '0'), input=data, stdout=subprocess.PIPE,
+                          check=True, env=kit.environment()).stdout
+
+
+def count(program, kind, data):
+    """How many instructions one call takes. Both numbers of calls are words of one length, so that
+    all else in the two runs is alike."""
+    none, some = (instructions(program, [kind, f'{times:02}'], data) for times in (0, TIMES))
+    return round((some - none) / TIMES)
 
 
 def instructions(program, words, data):

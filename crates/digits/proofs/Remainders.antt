@@ -1,15 +1,17 @@
 -- The number that a text stands for, and its remainder by 97, for a text of any length. Assumes nothing.
-use Prim.Native.Nat.{ℕ, _+_, _*_, _/_, _%_}
+use Prim.Native.Nat.{ℕ, _+_, _-_, _*_, _/_, _%_, _≤_, _<_}
 use native.Mathlib.Nat.{mul-add-mod-self-left}
 use native.Mathlib.Omega.{arith}
 use mathlib.Core.Bool.{cond}
 use mathlib.Core.List.{[], _∷_, _++_}
 use mathlib.Core.Path.{_≡_, refl, sym, ap, _∙_}
+use lib.ListN.{length, getD, take, drop, length-drop}
+use lib.Seq.{take-all}
 use Rattle.sieve.specs.Bytes.{Bytes}
 use Rattle.sieve.specs.Letters.{digit}
 use Rattle.sieve.specs.Mod97.{value, onto, number}
 use Rattle.digits.specs.Weight.{weight}
-use Rattle.digits.proofs.Folds.{Fold, after}
+use Rattle.digits.proofs.Folds.{Fold, step, end, after}
 
 pub numbers : Fold number onto
 unfolding number
@@ -27,6 +29,28 @@ pub carried : (n : ℕ) (s : Bytes) → number n s % 97 ≡ number (n % 97) s % 
 unfolding number
 carried n [] = omega arith
 carried n (x ∷ s) = carried (onto n x) s ∙ ap (λ (k : ℕ). number k s % 97) (rest (cond (digit x) 10 100) n (value x)) ∙ sym (carried (onto (n % 97) x) s)
+
+-- one character more is read, after the remainder r of what stands before
+pub one-turn : (n r : ℕ) (s : Bytes) (i : ℕ) → i < length s → number n s % 97 ≡ number r (drop i s) % 97
+    → number n s % 97 ≡ number (onto r (getD s i 0) % 97) (drop (i + 1) s) % 97
+one-turn n r s i h e = e ∙ ap (λ (k : ℕ). k % 97) (step numbers r s i h) ∙ carried _ (drop (i + 1) s)
+
+-- the first character is read by itself, and then the others
+pub first-turn : (n : ℕ) (s : Bytes) → 0 < length s → number (onto n (getD s 0 0) % 97) (take (length s - 1) (drop 1 s)) % 97 ≡ number n s % 97
+first-turn n s h =
+    let p : length (drop 1 s) ≤ length s - 1 = simp length-drop (omega arith) in
+    rw (take-all (length s - 1) (drop 1 s) p) (sym (one-turn n n s 0 h refl))
+
+-- two characters more
+pub two-turns : (n r : ℕ) (s : Bytes) (i : ℕ) → i + 1 < length s → number n s % 97 ≡ number r (drop i s) % 97
+    → number n s % 97 ≡ number (onto (onto r (getD s i 0) % 97) (getD s (i + 1) 0) % 97) (drop (i + 2) s) % 97
+two-turns n r s i h e =
+    let two : i + 2 ≡ i + 1 + 1 = omega arith in
+    rw two (one-turn n _ s (i + 1) h (one-turn n r s i (omega arith) e))
+
+-- nothing is left to read
+pub no-turn : (n r : ℕ) (s : Bytes) (i : ℕ) → length s ≤ i → r < 97 → number n s % 97 ≡ number r (drop i s) % 97 → r ≡ number n s % 97
+no-turn n r s i h small e = rw (e, end numbers r s i h) (omega arith)
 
 -- a text after a text
 pub appended : (n : ℕ) (a b : Bytes) → number n (a ++ b) ≡ number (number n a) b

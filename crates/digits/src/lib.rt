@@ -1,10 +1,15 @@
 // Check digits of texts of any length: MOD 97-10, and modulo 10, recursive.
+mod table;
+
+use crate::table::STEP;
+ghost use mathlib.Core.Bool.{true};
 ghost use mathlib.Core.Path.{_≡_};
-ghost use Prim.Native.Nat.{_+_, _-_, _%_, _^_, _<_};
-ghost use lib.ListN.{take, getD};
+ghost use Prim.Native.Nat.{_+_, _-_, _*_, _%_, _^_, _<_};
+ghost use lib.ListN.{length, take, getD};
 ghost use Rattle.sieve.specs.Letters.{digit};
 ghost use Rattle.sieve.specs.Mod97.{value, onto, number, remainder97, checks97};
 ghost use Rattle.sieve.specs.Mod10.{nextCarry, checkDigit, checks10};
+ghost use Rattle.digits.specs.Steps.{remainders};
 
 // One of 0-9.
 fn is_digit(x: u8) -> bool
@@ -22,10 +27,10 @@ fn value(x: u8) -> u64
         return (x - 48) as u64;
     }
     if (65 <= x) & (x <= 90) {
-        return (x - 55) as u64;
+        return x as u64 - 55;
     }
     if (97 <= x) & (x <= 122) {
-        return (x - 87) as u64;
+        return x as u64 - 87;
     }
     0
 }
@@ -53,7 +58,7 @@ fn onto(n: u64, x: u8) -> u64
 
 // The remainder by 97 of the number n with a text more. Only the remainder of what stands before counts, so it keeps no
 // more than that, and no text is too long.
-fn remainder_after(n: u64, s: &[u8]) -> u64
+pub fn remainder_after(n: u64, s: &[u8]) -> u64
     ensures { λ r. ⌜ r ≡ number n (now (s .entry)) % 97 ⌝ }
 {
     let mut r = n % 97;
@@ -77,11 +82,115 @@ pub fn remainder97(s: &[u8]) -> u64
     remainder_after(r, &s[0..4])
 }
 
+// A byte as a wider number.
+fn wide(x: u8) -> usize
+    ensures { λ r. ⌜ r ≡ x ⌝ }
+{
+    x as usize
+}
+
+// What a digit stands for, as a wider number.
+fn wide_digit(x: u8) -> usize
+    requires { ⌜ digit x ≡ true ⌝ }
+    ensures { λ r. ⌜ (r ≡ value x) × (r < 10) ⌝ }
+{
+    wide(x) - 48
+}
+
+// The table of steps, to be lent. Each function that names a constant array stores it anew, so one function names it
+// and it is made once for each check.
+fn steps() -> [u8; 970]
+    ensures { λ r. ⌜ remainders 0 r ≡ true ⌝ }
+{
+    STEP
+}
+
+// The remainder by 97 of a place in the table.
+fn looked_up(table: &[u8; 970], place: usize) -> usize
+    requires { ⌜ (remainders 0 (now table) ≡ true) × (place < 970) ⌝ }
+    ensures { λ r. ⌜ r ≡ place % 97 ⌝ }
+{
+    wide(table[place])
+}
+
+// The remainder by 97 of the number n with one decimal place more.
+fn one_place(table: &[u8; 970], n: usize, d: usize) -> usize
+    requires { ⌜ (remainders 0 (now table) ≡ true) × (n < 97) × (d < 10) ⌝ }
+    ensures { λ r. ⌜ r ≡ (10 * n + d) % 97 ⌝ }
+{
+    looked_up(table, 10 * n + d)
+}
+
+// The remainder by 97 of the number n with two decimal places more. 100 times n is 97 times and 3 times n, so that one
+// look into the table is enough.
+fn two_places(table: &[u8; 970], n: usize, v: usize) -> usize
+    requires { ⌜ (remainders 0 (now table) ≡ true) × (n < 97) × (v < 100) ⌝ }
+    ensures { λ r. ⌜ r ≡ (100 * n + v) % 97 ⌝ }
+{
+    looked_up(table, 3 * n + v)
+}
+
+// The remainder by 97 of the number n with one character more: one decimal place for a digit, two for any other.
+fn stepped(table: &[u8; 970], n: usize, x: u8) -> usize
+    requires { ⌜ (remainders 0 (now table) ≡ true) × (n < 97) ⌝ }
+    ensures { λ r. ⌜ r ≡ onto n x % 97 ⌝ }
+{
+    if is_digit(x) {
+        return one_place(table, n, wide_digit(x));
+    }
+    two_places(table, n, value(x) as usize)
+}
+
+// The remainder by 97 of the number n with a text more, two characters in each turn.
+fn run_by_two(table: &[u8; 970], n: usize, s: &[u8]) -> usize
+    requires { ⌜ (remainders 0 (now table) ≡ true) × (n < 97) × (length (now s) % 2 ≡ 0) ⌝ }
+    ensures { λ r. ⌜ r ≡ number n (now (s .entry)) % 97 ⌝ }
+{
+    let mut r = n;
+    let mut i = 0;
+    while i < s.len() {
+        r = stepped(table, stepped(table, r, s[i]), s[i + 1]);
+        i += 2;
+    }
+    r
+}
+
+// The remainder by 97 of the number n with a text more. Of an odd number of characters the first is read by itself.
+fn run(table: &[u8; 970], n: usize, s: &[u8]) -> usize
+    requires { ⌜ (remainders 0 (now table) ≡ true) × (n < 97) ⌝ }
+    ensures { λ r. ⌜ r ≡ number n (now (s .entry)) % 97 ⌝ }
+{
+    if s.len() % 2 == 1 {
+        return run_by_two(table, stepped(table, n, s[0]), &s[1..]);
+    }
+    run_by_two(table, n, s)
+}
+
+// What `remainder_after` answers, by the table.
+pub fn remainder_after_by_table(n: u64, s: &[u8]) -> u64
+    ensures { λ r. ⌜ r ≡ number n (now (s .entry)) % 97 ⌝ }
+{
+    let table = steps();
+    run(&table, (n % 97) as usize, s) as u64
+}
+
+// What `remainder97` answers, by the table.
+pub fn remainder97_by_table(s: &[u8]) -> u64
+    ensures { λ r. ⌜ r ≡ remainder97 (now (s .entry)) ⌝ }
+{
+    let table = steps();
+    if s.len() < 4 {
+        return run(&table, 0, s) as u64;
+    }
+    let r = run(&table, 0, &s[4..]);
+    run_by_two(&table, r, &s[0..4]) as u64
+}
+
 // Whether the two check digits of an IBAN or of a creditor reference are right.
 pub fn checks97(s: &[u8]) -> bool
     ensures { λ r. ⌜ r ≡ checks97 (now (s .entry)) ⌝ }
 {
-    remainder97(s) == 1
+    remainder97_by_table(s) == 1
 }
 
 // The decimal number that the first nine characters of a text stand for. They make a number below 100 ^ 9, which a u64

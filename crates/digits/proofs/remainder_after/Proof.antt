@@ -1,12 +1,11 @@
 -- `digits::remainder_after` meets its contract. The invariant: what is left, after the remainder so far, leaves the same remainder. Assumes nothing.
-use Prim.Native.Nat.{ℕ, _+_, _-_, _%_, _≤_, _<_}
+use Prim.Native.Nat.{_-_, _%_, _≤_, _<_}
 use native.Mathlib.Omega.{arith}
-use mathlib.Core.Path.{_≡_, ap, _∙_}
+use mathlib.Core.Path.{_≡_}
 use lib.ListN.{length, drop}
 use borrow.Author.Needs.{needs}
 use Rattle.sieve.specs.Mod97.{number}
-use Rattle.digits.proofs.Folds.{step, end}
-use Rattle.digits.proofs.Remainders.{numbers, carried}
+use Rattle.digits.proofs.Remainders.{carried, one-turn, no-turn}
 use Rattle.digits.proofs.remainder_after.Statement.{statement}
 use Rattle.digits.proofs.remainder_after.Tie as tie
 
@@ -34,17 +33,14 @@ loop-less c = search needs
 loop-again : tie.Need-loop-again Inv-loop μ-loop
 loop-again c =
     let l = c .before .before .before in
-    let s = l .before .before .args .s .now in
-    rw (c .onto .ensures) (
-      omega arith,
-      omega arith,
-      l .loop .inv .2 ∙ ap (λ (k : ℕ). k % 97) (step numbers (l .loop .r) s (l .loop .i) (omega arith)) ∙ carried _ (drop (l .loop .i + 1) s),
-    )
+    let a = l .before .before .args in
+    rw (c .onto .ensures) (omega arith, omega arith, one-turn (a .n) (l .loop .r) (a .s .now) (l .loop .i) (omega arith) (l .loop .inv .2))
 
 returns : tie.Need-returns Inv-loop μ-loop
 returns c =
     let l = c .before in
-    rw (l .loop .inv .2, end numbers (l .loop .r) (l .before .before .args .s .now) (l .loop .i) (c .loop-test .left)) (omega arith)
+    let a = l .before .before .args in
+    no-turn (a .n) (l .loop .r) (a .s .now) (l .loop .i) (c .loop-test .left) (l .loop .inv .1) (l .loop .inv .2)
 
 pub remainder-after-spec : {M : Type 1} → statement M
 remainder-after-spec =

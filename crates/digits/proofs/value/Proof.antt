@@ -21,17 +21,11 @@ returns c = rw (← c .before .is-digit .ensures, c .if1 .taken)
 sub-result-2 : tie.Need-sub-result-2
 sub-result-2 c = omega (arith, is-within 65 90 (c .before .before .before .args .x) (c .if2 .taken))
 
-cast-result-2 : tie.Need-cast-result-2
-cast-result-2 c = search needs
-
 returns-2 : tie.Need-returns-2
 returns-2 c = rw (← c .before .before .is-digit .ensures, c .before .if1 .left, c .if2 .taken)
 
 sub-result-3 : tie.Need-sub-result-3
 sub-result-3 c = omega (arith, is-within 97 122 (c .before .before .before .before .args .x) (c .if3 .taken))
-
-cast-result-3 : tie.Need-cast-result-3
-cast-result-3 c = search needs
 
 returns-3 : tie.Need-returns-3
 returns-3 c = rw (← c .before .before .before .is-digit .ensures, c .before .before .if1 .left, c .before .if2 .left, c .if3 .taken)
@@ -48,9 +42,7 @@ value-spec =
     cast-result
     returns
     sub-result-2
-    cast-result-2
     returns-2
     sub-result-3
-    cast-result-3
     returns-3
     returns-4)
