@@ -1,4 +1,4 @@
-"""What host/lending.c and bench/calls.c read: a text, and how to read and write it (host/record.h)."""
+"""What host/lending.c and bench/calls.c read: a text, and how to read and write it (record.h)."""
 
 import struct
 from typing import NamedTuple

@@ -1,5 +1,5 @@
 -- A packed number loses nothing but a bad byte's place: what is below 1000 is a count or a length, the rest a refusal; and each gives its parts back. Assumes nothing.
-use Prim.Native.Nat.{ℕ, _+_, _*_, _≤_, _<_}
+use Prim.Native.Nat.{ℕ, _≤_, _<_}
 use native.Mathlib.Omega.{arith}
 use mathlib.Core.Path.{_≡_, refl}
 use lib.Dec.{lit≤}

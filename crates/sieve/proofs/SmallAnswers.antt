@@ -14,7 +14,6 @@ use Rattle.sieve.specs.declared.Fault.{Fault}
 use Rattle.sieve.specs.declared.Written.{Written}
 use Rattle.sieve.specs.declared.Written.the-variants.{Length, Refused as NotWritten}
 use Rattle.sieve.specs.Bytes.{Bytes, within, firstSuch}
-use Rattle.sieve.specs.Demand.{DemandThree}
 use Rattle.sieve.specs.Lawful.{Lawful}
 use Rattle.sieve.specs.Lines.{joined, billOf}
 use Rattle.sieve.specs.Paper.{paperFault, paper, not-laid, paperWritten}

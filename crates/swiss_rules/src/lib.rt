@@ -152,7 +152,8 @@ fn reference(kind: &[u8], l: &[u8]) -> Finding
 
 // Lines 30 to 32.
 fn information(message: &[u8], trailer: &[u8], billing: &[u8]) -> Finding
-    ensures { λ r. ⌜ r ≡ finds information (from 30 (now (message .entry) ∷ now (trailer .entry) ∷ now (billing .entry) ∷ [])) ⌝ }
+    ensures { λ r.
+        ⌜ r ≡ finds information (from 30 (now (message .entry) ∷ now (trailer .entry) ∷ now (billing .entry) ∷ [])) ⌝ }
 {
     let f = at_most(KEPT, message, 30, limits::MESSAGE_MOST);
     let f = fixed(f, trailer, 31, &limits::TRAILER);

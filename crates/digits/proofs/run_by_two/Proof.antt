@@ -1,5 +1,5 @@
 -- `digits::run_by_two` meets its contract. The invariant: i is even, and what is left, after the remainder so far, leaves the same remainder. Assumes nothing.
-use Prim.Native.Nat.{_+_, _-_, _%_, _≤_, _<_}
+use Prim.Native.Nat.{_-_, _%_, _≤_, _<_}
 use native.Mathlib.Omega.{arith}
 use mathlib.Core.Path.{_≡_, refl}
 use lib.ListN.{length, drop}
