@@ -1,6 +1,8 @@
-/* The reader and the writer of Swiss QR-bill payloads for programs in C, on x86-64 Linux.
+/* The reader and the writer of Swiss QR-bill payloads, and of girocodes, for programs in C, on x86-64
+   Linux.
 
-   Link libcapi.a, which `rt staticlib capi` writes to target/staticlib.
+   Link libcapi.a for the Swiss bill, which `rt staticlib capi` writes to target/staticlib, and
+   libgiro_capi.a for the girocode, by `rt staticlib giro_capi`; or both.
 
    What is lent. A payload is `length` bytes at `payload`, of any content and any length; a text, a
    list and a destination are lent in the same way, a list as so many 16-bit numbers, aligned as
@@ -83,6 +85,29 @@ uint32_t qrbill_glance(const uint8_t *payload, size_t length);
    15, line 0      there is less room than bytes to write */
 uint32_t qrbill_write(const uint8_t *text, size_t length, const uint16_t *list, size_t numbers,
                       uint8_t count, bool crlf, uint8_t *destination, size_t room);
+
+/* The Austrian girocode (EPC QR code): the same four calls for a payload that begins with BCD. It has
+   7 to 12 lines and at most 331 bytes; a list has 24 numbers, start and length of each of 12 lines.
+   The characters are those of ISO 8859-1 if the third line is 2, and otherwise those of the Swiss
+   bill. Answers are packed in the same way. The refusals that differ:
+
+    2  over 331 bytes                               10  BIC, IBAN, amount, purpose or reference is
+    5  not 7 to 12 lines; the line is their count       not of its form
+    6  line 1 to 4 is not a text that it may be     12  reference and text are both filled; the
+    8  name, IBAN, last line, or BIC under version      line is 11
+       001 is empty                                 17  the coding is 3 to 8; the line is 3
+
+   7 and 13 never come. */
+#define GIROCODE_NUMBERS 24
+
+uint32_t girocode_read(const uint8_t *payload, size_t length);
+
+uint32_t girocode_line(const uint8_t *payload, size_t length, uint32_t line);
+
+uint32_t girocode_places(const uint8_t *payload, size_t length, uint16_t *list, size_t numbers);
+
+uint32_t girocode_write(const uint8_t *text, size_t length, const uint16_t *list, size_t numbers,
+                        uint8_t count, bool crlf, uint8_t *destination, size_t room);
 
 #ifdef __cplusplus
 }

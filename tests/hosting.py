@@ -1,4 +1,4 @@
-"""The C host over a library, and the reference beside it."""
+"""The C host over a library, and the reference beside it, for either layout."""
 
 import subprocess
 from collections import Counter
@@ -6,17 +6,16 @@ from pathlib import Path
 
 import kit
 from framing import framed
-from reference.glance import glance
-from reference.qrbill import Refused, read
+from layouts import SWISS
 from shrinking import difference
 
 HOST = kit.ROOT / 'tests' / 'host' / 'host.c'
-LAST_LINE = 35  # the host asks for lines 0 to 35
 
 
-def built_host(library: Path, folder: Path) -> Path:
+def built_host(library: Path, folder: Path, layout=SWISS) -> Path:
     """The host, linked to a library with the calls of include/qrbill.h."""
-    return kit.linked(folder / 'host', kit.compiled(HOST, folder), library)
+    folder = folder / layout.name
+    return kit.linked(folder / 'host', kit.compiled(HOST, folder, *layout.flags), library)
 
 
 def host_lines(program, payloads):
@@ -33,33 +32,19 @@ def host_lines(program, payloads):
     return lines
 
 
-def expected_line(payload):
-    """What the host should write for a payload, by the reference."""
-    answer = read(payload)
-    if isinstance(answer, Refused):
-        numbers = [1000 * answer.number + answer.line] + (LAST_LINE + 1) * [0]
-    else:
-        starts, lengths = answer.places[::2], answer.places[1::2]
-        places = [1000 * start + length for start, length in zip(starts, lengths)]
-        numbers = [answer.lines, 0, *places, 0]
-    found = glance(payload)
-    numbers.append(1000 * found.start + found.length if found else 0)
-    return ' '.join(map(str, numbers))
-
-
 def refusal(line):
     """The number of the refusal that a line of the host speaks of; 0 if the payload is accepted."""
     return int(line.split()[0]) // 1000
 
 
-def compare(program, payloads):
+def compare(program, payloads, layout=SWISS):
     """How often each refusal should come (0: accepted), and the payloads that differ."""
-    expected = [expected_line(payload) for payload in payloads]
+    expected = [layout.host_line(payload) for payload in payloads]
     got = host_lines(program, payloads)
     differing = [payload for payload, one, other in zip(payloads, expected, got) if one != other]
     return Counter(map(refusal, expected)), differing
 
 
-def described(program, payload):
+def described(program, payload, layout=SWISS):
     """A text about a payload that differs, made smaller."""
-    return difference(payload, expected_line, lambda some: host_lines(program, [some])[0])
+    return difference(payload, layout.host_line, lambda some: host_lines(program, [some])[0])

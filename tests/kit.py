@@ -30,11 +30,11 @@ def quietly(words, folder=None):
     ran.check_returncode()
 
 
-def compiled(source: Path, folder: Path) -> Path:
-    """Compile a C file; the object file lies in the folder."""
+def compiled(source: Path, folder: Path, *flags: str) -> Path:
+    """Compile a C file, with these flags too; the object file lies in the folder."""
     folder.mkdir(parents=True, exist_ok=True)
     made = folder / f'{source.stem}.o'
-    quietly([TOOLS / 'bin' / 'clang', *FLAGS, '-c', source, '-o', made])
+    quietly([TOOLS / 'bin' / 'clang', *FLAGS, *flags, '-c', source, '-o', made])
     return made
 
 

@@ -5,7 +5,7 @@ import subprocess
 from pathlib import Path
 
 import kit
-from reference.qrbill import LIST_NUMBERS, Refused, read, write
+from layouts import SWISS
 from records import LARGEST, MOST_NUMBERS, MOST_ROOM, record_of
 from shrinking import shrunk, told_of
 
@@ -16,23 +16,25 @@ MARK = b'\xAA'
 RESULT = struct.Struct(f'<I{2 * MOST_NUMBERS}sI{MOST_ROOM}s')
 
 
-def built_lender(library: Path, folder: Path) -> Path:
+def built_lender(library: Path, folder: Path, layout=SWISS) -> Path:
     """The host, linked to a library with the calls of include/qrbill.h."""
-    return kit.linked(folder / 'lending', kit.compiled(HOST, folder), library)
+    folder = folder / layout.name
+    return kit.linked(folder / 'lending', kit.compiled(HOST, folder, *layout.flags), library)
 
 
-def attempt(dice, payload):
+def attempt(dice, payload, layout=SWISS):
     """The lines of a payload where they lie in it; half the time with one thing changed."""
-    whole = record_of(payload)
+    most, fewest = layout.reference.MOST_LINES, layout.reference.FEWEST_LINES
+    whole = record_of(payload, 2 * most)
     places, length = list(whole.places), len(payload)
     change = dice.below(10)
     if change == 0:  # a list that is too short or too long
-        return whole._replace(places=(places + [7, 7])[:dice.pick([0, 67, 69, 70])])
+        return whole._replace(places=(places + [7, 7])[:dice.pick([0, 2 * most - 1, 2 * most + 1, 2 * most + 2])])
     if change == 1:
-        return whole._replace(count=dice.pick([0, 30, 31, 32, 33, 34, 35, 255]))
+        return whole._replace(count=dice.pick([0, 255, *range(fewest - 1, most + 2)]))
     if change == 2:
         number = dice.pick([0, 1, min(length, LARGEST), LARGEST])
-        places[dice.below(LIST_NUMBERS)] = number
+        places[dice.below(2 * most)] = number
         return whole._replace(places=places)
     if change == 3:
         return whole._replace(crlf=not whole.crlf)
@@ -46,16 +48,17 @@ def lent(room, written, size):
     return (size - room) * MARK + written.ljust(room, MARK)
 
 
-def expected_result(given):
+def expected_result(given, layout=SWISS):
     """What the host should write for a record."""
-    answer = read(given.text, len(given.places))
-    if isinstance(answer, Refused):
+    paper = layout.reference
+    answer = paper.read(given.text, len(given.places))
+    if isinstance(answer, paper.Refused):
         read_number, places = 1000 * answer.number + answer.line, []
     else:
         read_number, places = answer.lines + 100 * (answer.brk == 'CRLF'), answer.places
     brk = 'CRLF' if given.crlf else 'LF'
-    written = write(given.text, given.places, given.count, brk, given.room)
-    if isinstance(written, Refused):
+    written = paper.write(given.text, given.places, given.count, brk, given.room)
+    if isinstance(written, paper.Refused):
         write_number, data = 1000 * written.number + written.line, b''
     else:
         write_number, data = len(written.data), written.data
@@ -73,9 +76,10 @@ def results(program, records):
     return [ran.stdout[start:start + RESULT.size] for start in starts]
 
 
-def differing_records(program, records):
+def differing_records(program, records, layout=SWISS):
     """The records whose results are not the expected ones."""
-    tried = zip(records, map(expected_result, records), results(program, records))
+    expected = (expected_result(record, layout) for record in records)
+    tried = zip(records, expected, results(program, records))
     return [record for record, wanted, got in tried if wanted != got]
 
 
@@ -84,7 +88,7 @@ def smaller(record, differs):
     they lie in the text, with as much room more or less than that; or else with the same list."""
     def laid_out(text):
         room = record.room + len(text) - len(record.text)
-        return record_of(text)._replace(room=max(0, room))
+        return record_of(text, len(record.places))._replace(room=max(0, room))
     for with_text in (laid_out, lambda text: record._replace(text=text)):
         if differs(with_text(record.text)):
             return with_text(shrunk(record.text, lambda text: differs(with_text(text))))
@@ -99,8 +103,8 @@ def shown(result):
     return f'{read_number} {places.strip(MARK).hex()} {write_number} {data.strip(MARK)!r}'
 
 
-def record_described(name, program, record):
+def record_described(name, program, record, layout=SWISS):
     """A text about a record whose result is not the expected one, made smaller."""
-    small = smaller(record, lambda some: results(program, [some]) != [expected_result(some)])
+    small = smaller(record, lambda some: results(program, [some]) != [expected_result(some, layout)])
     got, = results(program, [small])
-    return f'{name}: {told_of(small, shown(expected_result(small)), shown(got))}'
+    return f'{name}: {told_of(small, shown(expected_result(small, layout)), shown(got))}'

@@ -28,13 +28,13 @@ class Record(NamedTuple):
         return framed(head + self.text)
 
 
-def record_of(payload):
-    """The lines of a payload where they lie in it, to be written again."""
+def record_of(payload, numbers=LIST_NUMBERS):
+    """The lines of a payload where they lie in it, to be written again from so many numbers."""
     brk = break_of(payload)
     places, start = [], 0
     for line in lines_of(payload):
         places += [min(start, LARGEST), min(len(line), LARGEST)]
         start += len(line) + len(brk)
     count = min(len(places) // 2, MOST_COUNT)
-    places = (places + LIST_NUMBERS * [0])[:LIST_NUMBERS]
+    places = (places + numbers * [0])[:numbers]
     return Record(payload, places, count, brk == b'\r\n', MOST_ROOM)

@@ -2,7 +2,8 @@
 
    Standard input is a row of records: a length of four bytes, the lowest first as x86-64 has it,
    and a payload of that length. For each record the host writes one line: what qrbill_read answers,
-   then what qrbill_line answers for lines 0 to 35, then what qrbill_glance answers. It ends with status 1 where a call changed the
+   then what qrbill_line answers for lines 0 to 35, then what qrbill_glance answers. Compiled for the
+   girocode it makes the calls of that, for lines 0 to 13, and no glance. It ends with status 1 where a call changed the
    payload.
 
    A payload is laid against a wall. */
@@ -12,25 +13,28 @@
 #include <stdio.h>
 #include <string.h>
 
-#include "qrbill.h"
+#include "layout.h"
 #include "wall.h"
 
-enum { ROOM = 1 << 20, LAST_LINE = 35 };
+enum { ROOM = 1 << 20 };
 
 static uint8_t copy[ROOM];
 
 /* Writes the line of numbers for one payload; answers false where a call changed the payload. */
 static bool answer(const uint8_t *payload, size_t length)
 {
-    printf("%u", qrbill_read(payload, length));
+    printf("%u", layout_read(payload, length));
     if (memcmp(payload, copy, length) != 0)
         return false;
     for (uint32_t line = 0; line <= LAST_LINE; line++) {
-        printf(" %u", qrbill_line(payload, length, line));
+        printf(" %u", layout_line(payload, length, line));
         if (memcmp(payload, copy, length) != 0)
             return false;
     }
-    printf(" %u\n", qrbill_glance(payload, length));
+#ifndef GIROCODE
+    printf(" %u", qrbill_glance(payload, length));
+#endif
+    printf("\n");
     if (memcmp(payload, copy, length) != 0)
         return false;
     fflush(stdout); /* so that the last line is there if the next payload ends the host */

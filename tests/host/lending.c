@@ -2,13 +2,13 @@
    it: a struct result.
 
    qrbill_places takes the text as a payload and fills a list; qrbill_write joins the lines that the
-   record's list finds in the text. What is lent is laid against a wall each, and full of marks
+   record's list finds in the text. Compiled for the girocode it makes the calls of that. What is lent is laid against a wall each, and full of marks
    before the call, as is the room in front of it. The host ends with status 1 where a call changed
    what it may only read. */
 
 #include <string.h>
 
-#include "qrbill.h"
+#include "layout.h"
 #include "record.h"
 #include "wall.h"
 
@@ -42,9 +42,9 @@ static bool answer(const struct record *given, struct result *result)
     uint8_t *lists = memset(list_end - sizeof result->places, MARK, sizeof result->places);
     uint8_t *destinations = memset(destination_end - MOST_ROOM, MARK, MOST_ROOM);
 
-    result->read = qrbill_places(text, given->length, (uint16_t *)(void *)(list_end - given_bytes),
+    result->read = layout_places(text, given->length, (uint16_t *)(void *)(list_end - given_bytes),
                                  given->numbers);
-    result->written = qrbill_write(text, given->length, places, given->numbers,
+    result->written = layout_write(text, given->length, places, given->numbers,
                                    (uint8_t)given->count, given->crlf != 0,
                                    destination_end - given->room, given->room);
     memcpy(result->places, lists, sizeof result->places);

@@ -3,6 +3,7 @@
 use glance::Account;
 use glance::glance;
 use packing::break_for;
+use packing::listed_place;
 use packing::packed_count;
 use packing::packed_place;
 use packing::packed_refusal;
@@ -14,14 +15,12 @@ use swiss_judge::judge;
 use swiss_judge::verdict;
 use writer::write;
 ghost use mathlib.Core.Path.{_≡_};
-ghost use Prim.Native.Nat.{_≤_};
-ghost use lib.ListN.{length};
 ghost use Rattle.sieve.specs.Verdict.{verdict};
 ghost use Rattle.swiss.specs.Swiss.{swiss};
 ghost use Rattle.packing.specs.Packing.{packed, breakFor};
-ghost use Rattle.packing.specs.Calls.{IsPackedRead, IsPackedWritten};
+ghost use Rattle.packing.specs.Calls.{packedLine, IsPackedRead, IsPackedWritten};
 ghost use Rattle.glance.specs.Glance.{glance, accountAs};
-ghost use Rattle.capi.specs.Calls.{listedPlace, packedLine, packedAccount};
+ghost use Rattle.capi.specs.Calls.{packedAccount};
 
 // The line count of an accepted payload; of a refused one 1000 times the refusal plus the line.
 #[no_mangle]
@@ -34,20 +33,11 @@ pub extern "C" fn qrbill_read(payload: &[u8]) -> u32
     }
 }
 
-// 1000 times the start plus the length that a list of places gives for a line.
-fn listed_place(places: &[u16], line: usize) -> u32
-    requires { ⌜ (length (now places) ≡ 68) × (1 ≤ line) × (line ≤ 34) ⌝ }
-    ensures { λ r. ⌜ r ≡ listedPlace (now (places .entry)) line ⌝ }
-{
-    let i = 2 * (line - 1);
-    packed_place(places[i], places[i + 1])
-}
-
 // 1000 times the start plus the length of a line of an accepted payload, counted from 1; 0 where the payload is refused
 // or the number is not 1 to 34.
 #[no_mangle]
 pub extern "C" fn qrbill_line(payload: &[u8], line: u32) -> u32
-    ensures { λ r. ⌜ r ≡ packedLine (now (payload .entry)) line (verdict swiss (now (payload .entry))) ⌝ }
+    ensures { λ r. ⌜ r ≡ packedLine swiss (now (payload .entry)) line (verdict swiss (now (payload .entry))) ⌝ }
 {
     let mut places = [0; 68];
     match judge(payload, &mut places) {

@@ -2,8 +2,9 @@
 use Prim.Native.Nat.{ℕ, suc, _≤_}
 use native.Mathlib.Nat.{le-antisymm}
 use native.Mathlib.Omega.{arith}
-use mathlib.Core.Bool.{Bool, true, false, cond, _&&_, and-eq-true-iff}
+use mathlib.Core.Bool.{Bool, true, false, cond, _&&_, _||_, true≢false, and-eq-true-iff}
 use mathlib.Core.List.{List, [], _∷_, _++_, map, map-append}
+use mathlib.Core.Logic.{_≢_}
 use mathlib.Core.Option.{Option, some, none, Option·none-ne-some, Option·some-injective}
 use mathlib.Core.Path.{_≡_, refl, sym, ap, _∙_}
 use lib.Dec.{eqb}
@@ -26,10 +27,14 @@ unfoldable pub looked : Finding → List Rule → List Bytes → Finding
 looked f [] ls = f
 looked f (r ∷ rs) ls = looked (after f (r .broken ls) (r .number) (r .line)) rs ls
 
--- the rules are numbered as rules about lines are
+-- the numbers that rules about lines have
+abbrev ofRule : ℕ → Bool
+ofRule n = within 6 13 n || eqb n 17
+
+-- rules so numbered
 unfoldable pub numbered : List Rule → Bool
 numbered [] = true
-numbered (r ∷ rs) = within 6 13 (r .number) && numbered rs
+numbered (r ∷ rs) = ofRule (r .number) && numbered rs
 
 -- what was found before stays
 stays : (f : Finding) (rs : List Rule) (ls : List Bytes) → eqb (f .number) 0 ≡ false → looked f rs ls ≡ f
@@ -37,12 +42,13 @@ unfolding looked after
 stays f [] ls h = refl
 stays f (r ∷ rs) ls h = rw (h, looked) (stays f rs ls h)
 
-not-0 : (n : ℕ) → within 6 13 n ≡ true → eqb n 0 ≡ false
-not-0 n h = ne-eqb n 0 (λ e. omega (arith, is-within 6 13 n h))
+not-0 : (n : ℕ) → ofRule n ≡ true → n ≢ 0
+not-0 n h e = true≢false (sym h ∙ ap ofRule e)
 
 -- the fault of such a number says that number and the line
-fault-says : (n i : ℕ) → within 6 13 n ≡ true → paperFault (faultOf n i) ≡ under n i
-fault-says n i h =
+
+says-to-13 : (n i : ℕ) → within 6 13 n ≡ true → paperFault (faultOf n i) ≡ under n i
+says-to-13 n i h =
     let (least, most) = is-within 6 13 n h in
     or 6 _ _ least (λ e. rw e) (λ a. or 7 _ _ a (λ e. rw e) (λ b. or 8 _ _ b (λ e. rw e) (λ c. or 9 _ _ c (λ e. rw e)
     (λ d. or 10 _ _ d (λ e. rw e) (λ f. or 11 _ _ f (λ e. rw e) (λ g. or 12 _ _ g (λ e. rw e) (λ j. let last : n ≡ 13 = le-antisymm most j in rw last)))))))
@@ -54,10 +60,17 @@ fault-says n i h =
         go true e = here (eqb-true n k e)
         go false e = there (let other = eqb-false n k e in omega (arith, other, least))
 
+fault-says : (n i : ℕ) → ofRule n ≡ true → paperFault (faultOf n i) ≡ under n i
+fault-says n i h = go (within 6 13 n) refl h
+  where
+    go : (b : Bool) → within 6 13 n ≡ b → (b || eqb n 17) ≡ true → paperFault (faultOf n i) ≡ under n i
+    go true e h = says-to-13 n i e
+    go false e h = let is-17 = eqb-true n 17 h in rw is-17
+
 pub looked-finds : (rs : List Rule) (ls : List Bytes) → numbered rs ≡ true → looked kept rs ls ≡ finds rs ls
 unfolding looked after finds first numbered
 looked-finds [] ls h = refl
-looked-finds (r ∷ rs) ls h = let (a, b) = and-eq-true-iff _ _ .0 h in go (r .broken ls) refl (not-0 (r .number) a) (looked-finds rs ls b)
+looked-finds (r ∷ rs) ls h = let (a, b) = and-eq-true-iff _ _ .0 h in go (r .broken ls) refl (ne-eqb (r .number) 0 (not-0 (r .number) a)) (looked-finds rs ls b)
   where
     go : (b : Bool) → r .broken ls ≡ b → eqb (r .number) 0 ≡ false → looked kept rs ls ≡ finds rs ls → looked kept (r ∷ rs) ls ≡ finds (r ∷ rs) ls
     go true e n ih = rw (e, looked, finds, first) (stays _ rs ls n)
@@ -83,7 +96,7 @@ module _ (ls : List Bytes) where
 
   -- what a rule of such a number says
   record Said (rs : List Rule) (r : Refusal) : Type 0 where
-    known : within 6 13 (r .number) ≡ true
+    known : ofRule (r .number) ≡ true
     is : r ≡ under (r .number) (r .line)
 
   said : (rs : List Rule) (q : Refusal) → numbered rs ≡ true → firstOf rs ≡ some q → Said rs q
@@ -91,7 +104,7 @@ module _ (ls : List Bytes) where
   said [] q h e = absurd (Option·none-ne-some q e)
   said (r ∷ rs) q h e = let (a, b) = and-eq-true-iff _ _ .0 h in go (r .broken ls) refl a (said rs q b)
     where
-      go : (b : Bool) → r .broken ls ≡ b → within 6 13 (r .number) ≡ true → (firstOf rs ≡ some q → Said rs q) → Said (r ∷ rs) q
+      go : (b : Bool) → r .broken ls ≡ b → ofRule (r .number) ≡ true → (firstOf rs ≡ some q → Said rs q) → Said (r ∷ rs) q
       go true f a ih = let s : under (r .number) (r .line) ≡ q = Option·some-injective _ _ (rw (f, first) at e) in rw (← s) (record { known = a; is = refl })
       go false f a ih = let s = ih (rw (f, first) at e) in record { known = s .known; is = s .is }
 
@@ -101,7 +114,7 @@ module _ (ls : List Bytes) where
     where
       go : (o : Option Refusal) → firstOf rs ≡ o → small o .number ≡ 0 → o ≡ none
       go none e z = refl
-      go (some q) e z = absurd (omega (arith, is-within 6 13 (q .number) (said rs q h e .known)))
+      go (some q) e z = absurd (not-0 (q .number) (said rs q h e .known) z)
 
   -- else the fault that the code makes of it is what they find
   pub found-fault : (rs : List Rule) → numbered rs ≡ true → (finds rs ls .number ≡ 0 → ⊥) → firstOf rs ≡ some (paperFault (faultOf (finds rs ls .number) (finds rs ls .line)))

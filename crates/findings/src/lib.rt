@@ -75,7 +75,7 @@ pub fn checked(before: Finding, n: usize, right: bool) -> Finding
     rule(before, !right, 11, n)
 }
 
-// The fault that a finding under rules 6 to 13 is.
+// The fault that a finding under a rule about lines is, 6 to 13 or 17.
 pub fn fault_of(found: Finding) -> Fault
     ensures { λ r. ⌜ r ≡ faultOf (found .number) (found .line) ⌝ }
 {
@@ -89,6 +89,7 @@ pub fn fault_of(found: Finding) -> Fault
         10 => Fault::BadForm(line),
         11 => Fault::BadCheckDigits(line),
         12 => Fault::Unpaired(line),
+        17 => Fault::UnreadCoding(line),
         _ => Fault::TooLongTogether(line),
     }
 }

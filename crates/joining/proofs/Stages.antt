@@ -24,6 +24,7 @@ use Rattle.sieve.specs.Reading.{noRoom}
 use Rattle.sieve.specs.Writing.{spans, handed, outsideText, strayBreak, writeFindings, writeAnswer, IsWritten}
 use Rattle.sieve.proofs.Bounds.{is-within}
 use Rattle.sieve.proofs.Findings.{first-nil, settled-accepts, settled-refuses, verdict-is}
+use Rattle.sieve.proofs.PaperLosesNothing.{one-written}
 use Rattle.sieve.proofs.Strays.{stray-found}
 use Rattle.sieve.proofs.Firsts.{passed, stopped}
 use Rattle.sieve.proofs.WriterPromises.{handed-length, unstray-counted, counted-unstray}
@@ -75,6 +76,10 @@ module _ (L : Layout) (text : Bytes) (list : List ℕ) (count : ℕ) (k : Break)
   at-places size good = passed _ (at-count size) (rw good)
 
 module _ {L : Layout} {text : Bytes} {list : List ℕ} {count : ℕ} {k : Break} {dest : Bytes} where
+  -- one answer, and one content of the destination
+  pub one-writing : {q r : Written} {a b : Bytes} → IsWritten L text list count k dest q a → IsWritten L text list count k dest r b → (q ≡ r) × (a ≡ b)
+  one-writing {q} {r} h j = (one-written q r (h .answer ∙ sym (j .answer)), h .lent ∙ sym (j .lent))
+
   -- a finding that settles the answer leaves the destination as it is
   refuses : (f : Fault) → first (writeFindings L text list count k (length dest)) ≡ some (paperFault f) → IsWritten L text list count k dest (Refused f) dest
   unfolding writeAnswer

@@ -11,13 +11,17 @@ use lib.ListN.{length, getD, drop, set}
 use lib.Seq.{drop-drop}
 use borrow.Author.Tests.{eqb-true, eqb-false, ltb-true, ltb-false, eq-eqb, ne-eqb, le-ltb, le-leb}
 use Rattle.sieve.specs.declared.Break.{Break}
+use Rattle.sieve.specs.declared.Break.the-variants.{Lf}
+use Rattle.sieve.specs.declared.Charset.{Charset}
 use Rattle.sieve.specs.Bytes.{Bytes}
 use Rattle.sieve.specs.Lines.{breakBytes, cut, breaksOf, kind}
 use Rattle.sieve.specs.Characters.{breakWidth}
 use Rattle.sieve.specs.Lawful.{Plain, no-more, one-more}
 use Rattle.sieve.specs.Places.{entries}
-use Rattle.sieve.specs.Latin.{inOne, latin}
-use Rattle.sieve.proofs.Latin.{lawful}
+use Rattle.sieve.specs.Latin.{inOne}
+use Rattle.sieve.specs.Charsets.{ofSet}
+use Rattle.sieve.proofs.Widths.{width-break}
+use Rattle.sieve.proofs.Charsets.{set-lawful, in-each-set}
 use Rattle.runs.proofs.ByteByByte.{next}
 use Rattle.text.specs.declared.LineAt.{LineAt}
 use Rattle.text.specs.Results.{IsLineAt}
@@ -42,14 +46,13 @@ plain-first no-more = sym (zero-add _)
 plain-first (one-more {x = x} a b p) = rw (ne-eqb x 10 a, ne-eqb x 13 b) (omega (arith, plain-first p))
 
 -- a byte that is a character by itself
-pub by-itself : (s : Bytes) (at : ℕ) → at < length s → inOne (getD s at 0) ≡ true → 1 ≡ latin (drop at s)
-unfolding latin
-by-itself s at h e = rw (next s at h, e)
+pub by-itself : (set : Charset) (s : Bytes) (at : ℕ) → at < length s → inOne (getD s at 0) ≡ true → 1 ≡ ofSet set (drop at s)
+by-itself set s at h e = rw (next s at h) (sym (in-each-set set (getD s at 0) _ e))
 
 -- LF is no character, and a break by itself
-pub line-feed : (s : Bytes) (at : ℕ) → at < length s → getD s at 0 ≡ 10 → (latin (drop at s) ≡ 0) × (1 ≡ breakWidth (drop at s))
-unfolding latin breakWidth
-line-feed s at h e = (rw (next s at h, e), rw (next s at h, e))
+pub line-feed : (set : Charset) (s : Bytes) (at : ℕ) → at < length s → getD s at 0 ≡ 10 → (ofSet set (drop at s) ≡ 0) × (1 ≡ breakWidth (drop at s))
+unfolding breakWidth
+line-feed set s at h e = (rw (next s at h, e) (width-break (ofSet set) (set-lawful set) Lf (drop (at + 1) s)), rw (next s at h, e))
 
 -- how the lines are parted, if these breaks come behind n - 1 others
 abbrev heldFrom : BreaksPassed → ℕ → List Break → Parted
@@ -123,8 +126,8 @@ pub all-listed : (s : Bytes) (l : List ℕ) (at i : ℕ) → capacity ≤ i → 
 all-listed s l at i h size e = filled-all s l at capacity (omega arith) (omega arith) size (rw (many-listed i h) at e)
 
 -- where the walk has come to
-pub record Here (s : Bytes) (l : List ℕ) (at start feeds : ℕ) (passed : BreaksPassed) : Type 0 where
-  pub come : Come s at feeds
+pub record Here (set : Charset) (s : Bytes) (l : List ℕ) (at start feeds : ℕ) (passed : BreaksPassed) : Type 0 where
+  pub come : Come set s at feeds
   pub before : start ≤ at
   pub line : start + length (cut (drop start s) .first) ≡ at + length (cut (drop at s) .first)
   pub breaks : breaksIn s ≡ heldFrom passed (feeds + 1) (breaksOf (cut (drop start s)))
@@ -132,17 +135,17 @@ pub record Here (s : Bytes) (l : List ℕ) (at start feeds : ℕ) (passed : Brea
   pub listed : length s ≤ greatest → Filled s l start (listedOf feeds)
 
 -- it starts at the first byte, whatever the list that is lent holds
-pub begins : (s : Bytes) (l : List ℕ) → Here s l 0 0 0 (record { first = 0; unlike = 0 })
+pub begins : (set : Charset) (s : Bytes) (l : List ℕ) → Here set s l 0 0 0 (record { first = 0; unlike = 0 })
 unfolding listed linesIn
-begins s l = record { come = starts s; before = omega arith; line = refl; breaks = from-first s; wide = λ h. absurd (h refl); listed = λ h. refl }
+begins set s l = record { come = starts set s; before = omega arith; line = refl; breaks = from-first s; wide = λ h. absurd (h refl); listed = λ h. refl }
 
-module _ (s : Bytes) (l : List ℕ) (at start feeds : ℕ) (passed : BreaksPassed) (here : Here s l at start feeds passed) where
+module _ (set : Charset) (s : Bytes) (l : List ℕ) (at start feeds : ℕ) (passed : BreaksPassed) (here : Here set s l at start feeds passed) where
   -- a character is passed
-  pub character : (n : ℕ) → n ≡ latin (drop at s) → n ≢ 0 → Here s l (at + n) start feeds passed
+  pub character : (n : ℕ) → n ≡ ofSet set (drop at s) → n ≢ 0 → Here set s l (at + n) start feeds passed
   character n e h =
-      let plain = rw (← e, drop-drop n at s) at (plain-first (lawful .plain (drop at s))) in
+      let plain = rw (← e, drop-drop n at s) at (plain-first (set-lawful set .plain (drop at s))) in
       record {
-        come = over-character s at feeds (here .come) n e h;
+        come = over-character set s at feeds (here .come) n e h;
         before = omega (arith, here .before);
         line = omega (arith, here .line, plain);
         breaks = here .breaks;
@@ -151,7 +154,7 @@ module _ (s : Bytes) (l : List ℕ) (at start feeds : ℕ) (passed : BreaksPasse
       }
 
   -- a break is passed, and its line noted in a list that has room for it
-  module _ (size : length l ≡ room) (b : ℕ) (in-bytes : at < length s) (z : latin (drop at s) ≡ 0) (e : b ≡ breakWidth (drop at s)) (h : b ≢ 0) where
+  module _ (size : length l ≡ room) (b : ℕ) (in-bytes : at < length s) (z : ofSet set (drop at s) ≡ 0) (e : b ≡ breakWidth (drop at s)) (h : b ≢ 0) where
     abbrev found : LineAt
     found = record { end = at; next = at + b }
 
@@ -172,9 +175,9 @@ module _ (s : Bytes) (l : List ℕ) (at start feeds : ℕ) (passed : BreaksPasse
         go false true w = here .wide w
         go false false w = here .wide w
 
-    pub a-break-passed : Here s (noted l feeds start (at - start)) (at + b) (at + b) (feeds + 1) (heldBy passed b (feeds + 1))
+    pub a-break-passed : Here set s (noted l feeds start (at - start)) (at + b) (at + b) (feeds + 1) (heldBy passed b (feeds + 1))
     a-break-passed = record {
-      come = over-break s at feeds (here .come) b z e h;
+      come = over-break set s at feeds (here .come) b z e h;
       before = omega arith;
       line = refl;
       breaks = here .breaks ∙ ap (heldFrom passed (feeds + 1)) (its-break .0) ∙ one-held passed b (feeds + 1) _ (here .wide) (λ w. its-break .1) h (λ w. omega arith);
@@ -195,9 +198,9 @@ module _ (s : Bytes) (l : List ℕ) (at start feeds : ℕ) (passed : BreaksPasse
   line-ends h = omega (arith, here .line, ends s at h .0, here .come .within)
 
 -- a run of characters by themselves is passed
-pub run-passed : (s : Bytes) (l : List ℕ) (at start feeds : ℕ) (passed : BreaksPassed) (n : ℕ) → run inOne (drop at s) ≡ n → Here s l at start feeds passed → Here s l (at + n) start feeds passed
-run-passed s l at start feeds passed zero e here = rw add-zero here
-run-passed s l at start feeds passed (suc n) e here =
+pub run-passed : (set : Charset) (s : Bytes) (l : List ℕ) (at start feeds : ℕ) (passed : BreaksPassed) (n : ℕ) → run inOne (drop at s) ≡ n → Here set s l at start feeds passed → Here set s l (at + n) start feeds passed
+run-passed set s l at start feeds passed zero e here = rw add-zero here
+run-passed set s l at start feeds passed (suc n) e here =
     let (h, one, more) = goes-on inOne s at n e in
     let q : at + suc n ≡ at + 1 + n = omega arith in
-    rw q (run-passed s l (at + 1) start feeds passed n more (character s l at start feeds passed here 1 (by-itself s at h one) (λ z. omega arith)))
+    rw q (run-passed set s l (at + 1) start feeds passed n more (character set s l at start feeds passed here 1 (by-itself set s at h one) (λ z. omega arith)))

@@ -9,7 +9,7 @@ use Rattle.sieve.specs.OneAnswer.{OneAnswer}
 use Rattle.lines.proofs as fn
 
 pub one-walk : OneAnswer fn.walk.ended fn.walk.Reads.Learnt
-one-walk κs a x y v w h k = (λ i. record { walked = (h .walked ∙ sym (k .walked)) i; parted = (h .parted ∙ sym (k .parted)) i }, ap (λ l. (w .0, (l, w .1 .1))) (h .places ∙ sym (k .places)))
+one-walk κs a x y v w h k = (λ i. record { walked = (h .walked ∙ sym (k .walked)) i; parted = (h .parted ∙ sym (k .parted)) i }, ap (λ l. (w .0, (w .1 .0, (l, w .1 .1 .1)))) (h .places ∙ sym (k .places)))
 
 pub one-clear : OneAnswer fn.clear.ended fn.clear.Reads.Learnt
 one-clear κs a x y v w h k = (refl, ap (λ l. (l, w .1)) (h ∙ sym k))

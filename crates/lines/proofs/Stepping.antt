@@ -8,26 +8,27 @@ use mathlib.Core.Path.{_≡_, refl, ap, _∙_}
 use lib.ListN.{length, take, drop, length-take, length-drop, take-append-drop, drop-of-length-le}
 use lib.Seq.{drop-drop, take-add, length-take-le}
 use borrow.Author.Tests.{ne-eqb}
+use Rattle.sieve.specs.declared.Charset.{Charset}
 use Rattle.sieve.specs.Bytes.{Bytes}
 use Rattle.sieve.specs.Characters.{Width, breakWidth, passes, walk, badPlace, lineFeeds}
 use Rattle.sieve.specs.Breaks.{Passed, none-passed, one-passed}
 use Rattle.sieve.proofs.Widths.{passes-other}
 use Rattle.sieve.proofs.Walking.{walk-passed, walk-stops}
-use Rattle.sieve.specs.Latin.{latin}
+use Rattle.sieve.specs.Charsets.{ofSet}
 use Rattle.lines.specs.declared.Walked.the-variants.{Clean, Bad}
 use Rattle.lines.specs.Walking.{walked}
 use Rattle.sieve.proofs.LineFeeds.{feeds-append, feeds-few}
 use Rattle.text.proofs.Fronts.{Front, character-front, break-front}
 
 -- the walk has come to a place: what it does from there on, and the LF bytes that it has passed
-pub record Come (s : Bytes) (at feeds : ℕ) : Type 0 where
-  pub onward : badPlace latin s ≡ walk latin 0 (drop at s) at
+pub record Come (set : Charset) (s : Bytes) (at feeds : ℕ) : Type 0 where
+  pub onward : badPlace (ofSet set) s ≡ walk (ofSet set) 0 (drop at s) at
   pub passed : lineFeeds (take at s) ≡ feeds
   pub within : at ≤ length s
 
-pub starts : (s : Bytes) → Come s 0 0
+pub starts : (set : Charset) (s : Bytes) → Come set s 0 0
 unfolding badPlace lineFeeds
-starts s = record { onward = refl; passed = refl; within = omega arith }
+starts set s = record { onward = refl; passed = refl; within = omega arith }
 
 passing : (w : Width) (s : Bytes) (at n : ℕ) → n ≤ length (drop at s) → passes w (drop at s) ≡ n → n ≢ 0 → walk w 0 (drop at s) at ≡ walk w 0 (drop (at + n) s) (at + n)
 passing w s at zero h e p = absurd (p refl)
@@ -37,31 +38,31 @@ passing w s at (suc n) h e p =
     let one : Passed w (drop (suc n) t) (c ++ []) = one-passed c [] n (length-take-le (suc n) t h) (rw (take-append-drop (suc n) t) e) none-passed in
     rw (append-nil, take-append-drop (suc n) t, length-take-le (suc n) t h, drop-drop (suc n) at s) at (walk-passed one at)
 
-module _ (s : Bytes) (at feeds : ℕ) (c : Come s at feeds) where
+module _ (set : Charset) (s : Bytes) (at feeds : ℕ) (c : Come set s at feeds) where
   pub few : feeds ≤ at
   few = omega (arith, c .passed, feeds-few (take at s), length-take at s)
 
-  step : (n f : ℕ) → Front n f (drop at s) → passes latin (drop at s) ≡ n → n ≢ 0 → Come s (at + n) (feeds + f)
+  step : (n f : ℕ) → Front n f (drop at s) → passes (ofSet set) (drop at s) ≡ n → n ≢ 0 → Come set s (at + n) (feeds + f)
   step n f r e p = record {
-    onward = c .onward ∙ passing latin s at n (r .there) e p;
+    onward = c .onward ∙ passing (ofSet set) s at n (r .there) e p;
     passed = rw (take-add at n s, feeds-append (take at s) (take n (drop at s)), c .passed, r .feeds);
     within = omega (arith, length-drop at s);
   }
 
   -- a character is passed
-  pub over-character : (n : ℕ) → n ≡ latin (drop at s) → n ≢ 0 → Come s (at + n) feeds
+  pub over-character : (n : ℕ) → n ≡ ofSet set (drop at s) → n ≢ 0 → Come set s (at + n) feeds
   unfolding passes
-  over-character n e h = rw add-zero at (step n 0 (rw (← e) at (character-front (drop at s))) (rw (← e, ne-eqb n 0 h)) h)
+  over-character n e h = rw add-zero at (step n 0 (rw (← e) at (character-front set (drop at s))) (rw (← e, ne-eqb n 0 h)) h)
 
   -- a break is passed
-  pub over-break : (b : ℕ) → latin (drop at s) ≡ 0 → b ≡ breakWidth (drop at s) → b ≢ 0 → Come s (at + b) (feeds + 1)
-  over-break b z e h = rw (← e) at (step _ 1 (break-front (drop at s) (rw (← e) h)) (passes-other latin (drop at s) z) (rw (← e) h))
+  pub over-break : (b : ℕ) → ofSet set (drop at s) ≡ 0 → b ≡ breakWidth (drop at s) → b ≢ 0 → Come set s (at + b) (feeds + 1)
+  over-break b z e h = rw (← e) at (step _ 1 (break-front (drop at s) (rw (← e) h)) (passes-other (ofSet set) (drop at s) z) (rw (← e) h))
 
   -- nothing passes: the walk stops here
-  pub stops-here : at < length s → latin (drop at s) ≡ 0 → breakWidth (drop at s) ≡ 0 → Bad (1 + feeds) at ≡ walked s (badPlace latin s)
-  stops-here h z e = rw (c .onward, walk-stops latin (drop at s) at (λ n. omega (arith, ap length n, length-drop at s)) (passes-other latin (drop at s) z ∙ e), c .passed)
+  pub stops-here : at < length s → ofSet set (drop at s) ≡ 0 → breakWidth (drop at s) ≡ 0 → Bad (1 + feeds) at ≡ walked s (badPlace (ofSet set) s)
+  stops-here h z e = rw (c .onward, walk-stops (ofSet set) (drop at s) at (λ n. omega (arith, ap length n, length-drop at s)) (passes-other (ofSet set) (drop at s) z ∙ e), c .passed)
 
   -- nothing is left
-  pub ends-here : length s ≤ at → Clean ≡ walked s (badPlace latin s)
+  pub ends-here : length s ≤ at → Clean ≡ walked s (badPlace (ofSet set) s)
   unfolding walk
   ends-here h = rw (c .onward, drop-of-length-le s h)

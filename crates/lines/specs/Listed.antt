@@ -6,6 +6,7 @@ use mathlib.Core.Path.{_≡_}
 use lib.Dec.{ltb, leb}
 use lib.ListN.{length, take, replicate}
 use Rattle.sieve.specs.Bytes.{Bytes}
+use Rattle.sieve.specs.Lines.{cut, linesOf}
 use Rattle.sieve.specs.Places.{entryNumbers, entries}
 use Rattle.text.specs.LinesIn.{linesIn, linesAt}
 
@@ -35,3 +36,8 @@ Filled p l at n = take (2 * n) l ++ entries (capacity - n) (length p) (linesAt p
 -- how many of so many lines are listed
 abbrev pub listedOf : ℕ → ℕ
 listedOf n = cond (ltb n capacity) n capacity
+
+-- the places are those of a payload's lines, and the count is theirs
+pub record Counted (p : Bytes) (places : List ℕ) (count : ℕ) : Type 0 where
+  pub listed : places ≡ listed p
+  pub counted : count ≡ length (linesOf (cut p))

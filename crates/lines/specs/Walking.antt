@@ -10,8 +10,7 @@ use Rattle.sieve.specs.declared.Break.{Break}
 use Rattle.sieve.specs.declared.Break.the-variants.{Lf, CrLf}
 use Rattle.sieve.specs.Bytes.{Bytes, firstSuch}
 use Rattle.sieve.specs.Lines.{cut, breaksOf, kind, sameBreak}
-use Rattle.sieve.specs.Characters.{badPlace, lineFeeds}
-use Rattle.sieve.specs.Latin.{latin}
+use Rattle.sieve.specs.Characters.{lineFeeds}
 use Rattle.lines.specs.declared.Walked.{Walked}
 use Rattle.lines.specs.declared.Walked.the-variants.{Clean, Bad}
 use Rattle.lines.specs.declared.Parted.{Parted}
@@ -59,9 +58,8 @@ partedBy passed n = cond (eqb (passed .unlike) 0) (Alike (ofWidth (passed .first
 abbrev pub noted : List ℕ → ℕ → ℕ → ℕ → List ℕ
 noted l n start bytes = cond (ltb n capacity && leb start greatest && leb bytes greatest) (set (set l (2 * n) start) (2 * n + 1) bytes) l
 
--- the walk's end: what it found; and where nothing is bad, how the lines are parted, and the list of all but the last
+-- the walk's end: where nothing is bad, how the lines are parted, and the list of all but the last
 pub record IsCame (s : Bytes) (r : Came) (places : List ℕ) : Type 0 where
-  pub walked : r .walked ≡ walked s (badPlace latin s)
   pub start : r .start ≤ length s
   pub fits : r .feeds ≤ length s
   pub parted : r .walked ≡ Clean → partedBy (r .breaks) (r .feeds + 1) ≡ breaksIn s

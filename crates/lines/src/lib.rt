@@ -1,18 +1,19 @@
 // The walk over a payload: its characters, its breaks, and where its lines lie; and each line, by the list of places.
 use sieve::Break;
+use sieve::Charset;
 use text::break_width;
 use text::in_one;
 use text::plain_end;
-use text::width;
+use text::width_in;
 ghost use mathlib.Core.Path.{_≡_};
 ghost use Prim.Native.Nat.{_≤_};
 ghost use lib.ListN.{length, replicate};
 ghost use Rattle.sieve.specs.Lines.{cut, linesOf};
 ghost use Rattle.sieve.specs.Rules.{line};
 ghost use Rattle.sieve.specs.Characters.{badPlace};
-ghost use Rattle.sieve.specs.Latin.{latin};
+ghost use Rattle.sieve.specs.Charsets.{ofSet};
 ghost use Rattle.lines.specs.Listed.{capacity, room, greatest, listed, listedShort, listedOf, Filled};
-ghost use Rattle.lines.specs.Walking.{ofWidth, partedBy, noted, heldBy, IsCame, IsTold};
+ghost use Rattle.lines.specs.Walking.{walked, ofWidth, partedBy, noted, heldBy, IsCame, IsTold};
 
 // How many lines the list has room for.
 pub const CAPACITY: usize = 34;
@@ -99,8 +100,9 @@ fn note(places: &mut [u16], n: usize, start: usize, bytes: usize)
 
 // Walks line by line, and in each line character by character, to the first place where neither a character nor a
 // break begins. What ends a line is one LF, alone or after CR, so the lines are counted by their LF. Most characters are
-// one byte, and are passed run by run; most breaks are LF, and like the first one.
-fn come(s: &[u8], places: &mut [u16; 68]) -> Came
+// 20 to 7E, one byte in each set, and are passed run by run; most breaks are LF, and like the first one.
+fn come(s: &[u8], set: Charset, places: &mut [u16; 68]) -> Came
+    ensures { λ r. ⌜ r .walked ≡ walked (now (s .entry)) (badPlace (ofSet set) (now (s .entry))) ⌝ }
     ensures { λ r. ⌜ IsCame (now (s .entry)) r (now (places .exit)) ⌝ }
 {
     let mut at = 0;
@@ -117,7 +119,7 @@ fn come(s: &[u8], places: &mut [u16; 68]) -> Came
             }
             let mut b = 1;
             if x != 10 {
-                let n = width(s, at);
+                let n = width_in(set, s, at);
                 if n != 0 {
                     at += n;
                     continue;
@@ -197,10 +199,10 @@ fn list(s: &[u8], came: Came, places: &mut [u16; 68])
 
 // The whole walk, over any bytes. The list that is lent gets start and length of each of 34 lines; it is cleared where
 // a byte is bad, or where the bytes are more than 16 bits count.
-pub fn walk(s: &[u8], places: &mut [u16; 68]) -> Told
-    ensures { λ r. ⌜ IsTold (now (s .entry)) (badPlace latin (now (s .entry))) r (now (places .exit)) ⌝ }
+pub fn walk(s: &[u8], set: Charset, places: &mut [u16; 68]) -> Told
+    ensures { λ r. ⌜ IsTold (now (s .entry)) (badPlace (ofSet set) (now (s .entry))) r (now (places .exit)) ⌝ }
 {
-    let came = come(s, places);
+    let came = come(s, set, places);
     let walked = came.walked;
     match walked {
         Walked::Bad(line, at) => {

@@ -9,6 +9,9 @@ one-packed-refusal κs a x y v w h k = (h ∙ sym k, refl)
 pub one-packed-place : OneAnswer fn.packed_place.ended fn.packed_place.Reads.Learnt
 one-packed-place κs a x y v w h k = (h ∙ sym k, refl)
 
+pub one-listed-place : OneAnswer fn.listed_place.ended fn.listed_place.Reads.Learnt
+one-listed-place κs a x y v w h k = (h ∙ sym k, refl)
+
 pub one-packed-count : OneAnswer fn.packed_count.ended fn.packed_count.Reads.Learnt
 one-packed-count κs a x y v w h k = (h ∙ sym k, refl)
 

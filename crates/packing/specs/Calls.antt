@@ -1,13 +1,27 @@
--- What a call for C of a layout's reader and of its writer answers, and what lent memory then holds. Assumes nothing.
-use Prim.Native.Nat.{ℕ}
+-- What the calls for C of a layout answer: the place of a line; the reader and the writer, and what lent memory then holds. Assumes nothing.
+use Prim.Native.Nat.{ℕ, _+_, _-_, _*_}
+use mathlib.Core.Bool.{cond}
 use mathlib.Core.List.{List}
 use mathlib.Core.Path.{_≡_}
+use lib.ListN.{getD}
 use Rattle.sieve.specs.declared.Break.{Break}
-use Rattle.sieve.specs.Bytes.{Bytes}
+use Rattle.sieve.specs.Bytes.{Bytes, within}
+use Rattle.sieve.specs.Lines.{billOf}
+use Rattle.sieve.specs.Places.{placesOf}
 use Rattle.sieve.specs.Reading.{readAnswer}
 use Rattle.sieve.specs.Rules.{Layout}
+use Rattle.sieve.specs.Verdict.{Verdict, accepted, refused}
 use Rattle.sieve.specs.Writing.{writeAnswer}
-use Rattle.packing.specs.Packing.{packedVerdict, packedLaying}
+use Rattle.packing.specs.Packing.{packedPlace, packedVerdict, packedLaying}
+
+-- the place of line i in a list of places
+abbrev pub listedPlace : List ℕ → ℕ → ℕ
+listedPlace places i = packedPlace (getD places (2 * (i - 1)) 0) (getD places (2 * (i - 1) + 1) 0)
+
+-- of an accepted payload, for a line that the layout may have, of which an absent one lies at the end and has no bytes; else 0
+abbrev pub packedLine : Layout → Bytes → ℕ → Verdict → ℕ
+packedLine L p i (refused r) = 0
+packedLine L p i (accepted n k) = cond (within 1 (L .most-lines) i) (listedPlace (placesOf L (billOf p)) i) 0
 
 -- of a payload and a list, the number r and the list afterwards
 pub record IsPackedRead (L : Layout) (p : Bytes) (list : List ℕ) (r : ℕ) (after : List ℕ) : Type 0 where

@@ -4,9 +4,11 @@ use sieve::Fault;
 use sieve::line_of;
 use sieve::number_of;
 ghost use mathlib.Core.Path.{_≡_};
-ghost use Prim.Native.Nat.{_<_};
+ghost use Prim.Native.Nat.{_≤_, _<_};
+ghost use lib.ListN.{length};
 ghost use Rattle.sieve.specs.Paper.{paperFault};
 ghost use Rattle.packing.specs.Packing.{shift, packedRefusal, packedPlace, mark, packedCount, breakFor};
+ghost use Rattle.packing.specs.Calls.{listedPlace};
 
 // What the number of a refusal, or the start of a place, is multiplied by.
 const SHIFT: u32 = 1000;
@@ -24,6 +26,15 @@ pub fn packed_place(start: u16, bytes: u16) -> u32
     ensures { λ r. ⌜ r ≡ packedPlace start bytes ⌝ }
 {
     SHIFT * start as u32 + bytes as u32
+}
+
+// 1000 times the start plus the length that a list of places gives for a line.
+pub fn listed_place(places: &[u16], line: usize) -> u32
+    requires { ⌜ (length (now places) ≡ 68) × (1 ≤ line) × (line ≤ 34) ⌝ }
+    ensures { λ r. ⌜ r ≡ listedPlace (now (places .entry)) line ⌝ }
+{
+    let i = 2 * (line - 1);
+    packed_place(places[i], places[i + 1])
 }
 
 // What a kind of break adds to a count of lines.

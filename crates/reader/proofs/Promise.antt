@@ -1,13 +1,10 @@
 -- What a user of the reader may rely on, stated on its contract. Assumes nothing.
 use Prim.Native.Nat.{ℕ, _≤_, _<_}
 use native.Mathlib.Omega.{arith}
-use mathlib.Core.Bool.{Bool, true, false}
 use mathlib.Core.List.{List}
-use mathlib.Core.Option.{Option·none-ne-some}
-use mathlib.Core.Path.{_≡_, refl, sym, ap, _∙_}
-use lib.Dec.{ltb, lit≤}
+use mathlib.Core.Path.{_≡_, sym, ap, _∙_}
+use lib.Dec.{lit≤}
 use lib.ListN.{length, drop}
-use borrow.Author.Tests.{ltb-true}
 use Rattle.sieve.specs.declared.Answer.{Answer}
 use Rattle.sieve.specs.declared.Answer.the-variants.{Accepted, Refused}
 use Rattle.sieve.specs.declared.Break.{Break}
@@ -22,17 +19,17 @@ use Rattle.sieve.specs.Demand.{Is, Earliest}
 use Rattle.sieve.specs.Pointing.{BeginsNeither}
 use Rattle.sieve.specs.Writing.{handed}
 use Rattle.sieve.proofs.PaperLosesNothing.{one-answer}
-use Rattle.sieve.proofs.Pointing.{verdict-points}
 use Rattle.sieve.proofs.ReaderPromises.{accepted-no-room, accepted-reads, refused-reads, bill-reads}
 use Rattle.swiss.specs.Swiss.{swiss}
 use Rattle.swiss.proofs.Numbers.{never-14-or-15}
 use Rattle.sieve.proofs.Latin.{lawful}
-use Rattle.sieve.specs.Reading.{readOnto, readAnswer, IsRead}
-use Rattle.sieve.specs.Verdict.{Refusal, under, underAt, found, Verdict, accepted, refused, verdict}
+use Rattle.sieve.specs.Reading.{IsRead}
+use Rattle.sieve.specs.Verdict.{accepted, verdict}
+use Rattle.whole.proofs.Reading as reading
 
 -- one answer, and one content of the list
 pub one-reading : (p : Bytes) (list : List ℕ) (q r : Answer) (a b : List ℕ) → IsRead swiss p list q a → IsRead swiss p list r b → (q ≡ r) × (a ≡ b)
-one-reading p list q r a b h k = (one-answer q r (h .answer ∙ sym (k .answer)), h .lent ∙ sym (k .lent))
+one-reading p list q r a b = reading.one-reading
 
 -- given room, what is accepted is a bill that keeps every rule and is written as those bytes, and the places cut out its lines
 pub accepted-is-bill : (p : Bytes) (list after : List ℕ) (n : ℕ) (k : Break) → 68 ≤ length list → IsRead swiss p list (Accepted n k) after
@@ -63,20 +60,10 @@ too-little-room p list after n k r short v h =
 
 -- and nowhere else
 pub room-alone : (p : Bytes) (list after : List ℕ) → IsRead swiss p list (Refused NoRoom) after → (length list < 68) × ((n : ℕ) × ((k : Break) × (verdict swiss p ≡ accepted n k)))
-unfolding swiss readAnswer
-room-alone p list after h = go (verdict swiss p) refl (ltb (length list) 68) refl (sym (h .answer))
-  where
-    go : (v : Verdict) → verdict swiss p ≡ v → (b : Bool) → ltb (length list) 68 ≡ b → readOnto swiss p list v (found b (under 15 0)) .answer ≡ refused (under 15 0) → (length list < 68) × ((n : ℕ) × ((k : Break) × (verdict swiss p ≡ accepted n k)))
-    go (refused q) v b e s = absurd (omega (arith, never-14-or-15 p (under 15 0) (v ∙ s)))
-    go (accepted n k) v true e s = (ltb-true _ _ e, (n, (k, v)))
-    go (accepted n k) v false e s = let z : _≡_ {A = ℕ} 0 1 = cc in absurd (omega arith)
+unfolding swiss
+room-alone p list after = reading.short-alone (λ r v e. omega (arith, e, never-14-or-15 p r v))
 
 -- a refusal under 3 points at a byte: the first place where neither a character nor a break begins, and its line
 pub points-at-the-byte : (p : Bytes) (list after : List ℕ) (i at : ℕ) → IsRead swiss p list (Refused (BadCharacter i at)) after → BeginsNeither latin p i at
-unfolding swiss readAnswer
-points-at-the-byte p list after i at h = go (verdict swiss p) refl (ltb (length list) 68) (sym (h .answer))
-  where
-    go : (v : Verdict) → verdict swiss p ≡ v → (b : Bool) → readOnto swiss p list v (found b (under 15 0)) .answer ≡ refused (underAt 3 i at) → BeginsNeither latin p i at
-    go (refused q) v b s = verdict-points swiss p i at (v ∙ s)
-    go (accepted n k) v true s = let r : under 15 0 ≡ underAt 3 i at = cc in absurd (Option·none-ne-some at (ap (λ (q : Refusal). q .place) r))
-    go (accepted n k) v false s = let z : _≡_ {A = ℕ} 0 1 = cc in absurd (omega arith)
+unfolding swiss
+points-at-the-byte p list after = reading.reader-points

@@ -10,7 +10,8 @@ use lib.Seq.{length-take-le, take-append-seam}
 use lib.Dec.{ltb, lit≤}
 use borrow.Author.Tests.{lt-ltb, le-ltb, ltb-true, ltb-false}
 use Rattle.sieve.specs.Bytes.{Bytes, ascii}
-use Rattle.report.specs.Spoken.{digitByte, decimalIn, decimal, spokenPlace}
+use Rattle.sieve.specs.Decimal.{digitByte, decimalIn}
+use Rattle.report.specs.Spoken.{decimal, spokenPlace}
 
 -- the front of a line, and a text behind it
 pub added-in-front : (n : ℕ) (d l rest : Bytes) → n ≤ length d → take (n + length l) (take n d ++ (l ++ rest)) ≡ take n d ++ l

@@ -15,7 +15,8 @@ use Rattle.sieve.specs.Verdict.{under, underAt, Verdict, accepted, refused, ver
 use Rattle.sieve.proofs.Numbers.{low-number}
 use Rattle.swiss.specs.Swiss.{swiss}
 use Rattle.swiss.proofs.Numbers.{low-line, low-place, never-14-or-15, line-count}
-use Rattle.report.specs.Spoken.{decimalIn, decimal, breakName, lineEnd, spokenPlace, spoken, Short}
+use Rattle.sieve.specs.Decimal.{decimalIn}
+use Rattle.report.specs.Spoken.{decimal, breakName, lineEnd, spokenPlace, spoken, Short}
 use Rattle.report.proofs.Adding.{few-digits, place-short}
 
 -- what the verdict names is below 1000

@@ -1,21 +1,12 @@
 -- The line that the program writes of a verdict. Assumes nothing.
-use Prim.Native.Nat.{ℕ, zero, suc, _+_, _/_, _%_, _<_}
-use mathlib.Core.Bool.{cond}
+use Prim.Native.Nat.{ℕ, _<_}
 use mathlib.Core.List.{[], _∷_, _++_}
 use mathlib.Core.Option.{Option, some, none, Option·getD}
-use lib.Dec.{ltb}
 use Rattle.sieve.specs.declared.Break.{Break}
 use Rattle.sieve.specs.declared.Break.the-variants.{Lf, CrLf}
 use Rattle.sieve.specs.Bytes.{Bytes, ascii}
+use Rattle.sieve.specs.Decimal.{decimalIn}
 use Rattle.sieve.specs.Verdict.{Verdict, accepted, refused}
-
-abbrev pub digitByte : ℕ → ℕ
-digitByte d = 48 + d
-
--- a number of at most so many digits: those of its tenth part, then the last one
-unfoldable pub decimalIn : ℕ → ℕ → Bytes
-decimalIn zero n = []
-decimalIn (suc k) n = cond (ltb n 10) (digitByte n ∷ []) (decimalIn k (n / 10) ++ (digitByte (n % 10) ∷ []))
 
 -- a number in decimal digits, with no zeros in front: any number of 64 bits has at most 20
 unfoldable pub decimal : ℕ → Bytes

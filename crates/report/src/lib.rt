@@ -15,7 +15,8 @@ ghost use Rattle.sieve.specs.Paper.{paper, paperFault};
 ghost use Rattle.sieve.specs.Verdict.{accepted, refused, verdict};
 ghost use Rattle.swiss.specs.Swiss.{swiss};
 ghost use Rattle.runs.specs.Laid.{fitting, overFitting};
-ghost use Rattle.report.specs.Spoken.{digitByte, decimal, spokenPlace, spoken, Short};
+ghost use Rattle.sieve.specs.Decimal.{digitByte};
+ghost use Rattle.report.specs.Spoken.{decimal, spokenPlace, spoken, Short};
 
 // Lays a text behind the first `at` bytes of a line, and answers where it ends.
 fn add(line: &mut [u8], at: usize, text: &[u8]) -> usize

@@ -1,7 +1,10 @@
 pub mod Bounds
+pub mod Decimals
 pub mod Heads
 pub mod Likeness
 pub mod Latin
+pub mod Iso8859
+pub mod Charsets
 pub mod Counting
 pub mod LineFeeds
 pub mod Cutting

@@ -6,7 +6,7 @@ use mathlib.Core.Option.{Option·getD}
 use mathlib.Core.Path.{_≡_, refl, sym, _∙_, ap}
 use lib.ListN.{getD}
 use Rattle.sieve.specs.declared.Fault.{Fault}
-use Rattle.sieve.specs.declared.Fault.the-variants.{NoBytes, TooManyBytes, BadCharacter, MixedBreaks, LineCount, NotFixedText, NotEmpty, Missing, TooLong, BadForm, BadCheckDigits, Unpaired, TooLongTogether, OutsideText, NoRoom}
+use Rattle.sieve.specs.declared.Fault.the-variants.{NoBytes, TooManyBytes, BadCharacter, MixedBreaks, LineCount, NotFixedText, NotEmpty, Missing, TooLong, BadForm, BadCheckDigits, Unpaired, TooLongTogether, OutsideText, NoRoom, UnreadCoding}
 use Rattle.sieve.specs.declared.Answer.{Answer}
 use Rattle.sieve.specs.declared.Answer.the-variants.{Accepted, Refused}
 use Rattle.sieve.specs.declared.Written.{Written}
@@ -33,8 +33,9 @@ fault r =
     ∷ Unpaired i
     ∷ TooLongTogether i
     ∷ OutsideText i
+    ∷ NoRoom
     ∷ [])
-    (r .number - 1) NoRoom
+    (r .number - 1) (UnreadCoding i)
 
 back : (f : Fault) → fault (paperFault f) ≡ f
 back NoBytes = refl
@@ -52,6 +53,7 @@ back (Unpaired i) = refl
 back (TooLongTogether i) = refl
 back (OutsideText i) = refl
 back NoRoom = refl
+back (UnreadCoding i) = refl
 
 pub one-fault : (f g : Fault) → paperFault f ≡ paperFault g → f ≡ g
 one-fault f g e = sym (back f) ∙ ap fault e ∙ back g

@@ -20,7 +20,7 @@ use Rattle.sieve.specs.Verdict.{Refusal, under, accepted, findings, firs
 use Rattle.sieve.specs.Writing.{outside, spans, handed, writeFindings, laidOnto, writeAnswer}
 use Rattle.sieve.proofs.Findings.{found-none, found-some}
 use Rattle.sieve.proofs.Firsts.{alone}
-use Rattle.sieve.proofs.Numbers.{Each, Small}
+use Rattle.sieve.proofs.Numbers.{Each, Small, never-14-or-15}
 use Rattle.sieve.proofs.Strays.{stray-found}
 use Rattle.sieve.proofs.WriterPromises.{handedBill, read-as-handed}
 
@@ -50,7 +50,7 @@ module _ (L : Layout) (text : Bytes) (list : List ℕ) (count : ℕ) (k : Break)
       (λ long. either _ _ (λ e. unlike (under 5 count) (under 15 0) (found-some (not (within (L .fewest-lines) (L .most-lines) count)) _ _ e .1) (lit≤ tt))
       (λ counted. either _ _ (λ e. absurd (not-outside (firstSuch (outside (length text)) 1 (spans count list)) e))
       (λ inside. either _ _ (λ e. unlike _ (under 15 0) (sym (stray-found 1 _ _ e .is)) (lit≤ tt))
-      (λ unstray. either _ _ (λ e. absurd (omega (arith, small _ e .number)))
+      (λ unstray. either _ _ (λ e. absurd (never-14-or-15 (under 15 0) (small _ e) .1 refl))
       (λ nothing h. inr (read-as-handed L text list count k dest laws two (not-false _ (found-none _ _ counted)) unstray nothing .0, ltb-true _ _ (found-some _ _ _ (sym (alone _) ∙ h) .0)))))))
 
   pub short-alone : Each Small (first (findings L (joined k (handed text list count)))) → writeAnswer L text list count k dest .answer ≡ not-laid (under 15 0) → Short

@@ -33,5 +33,5 @@ pub data Breaks (L : Layout) (p : Bytes) : ℕ → Refusal → Type 0 where
   -- 5: there are too few lines, or too many
   too-few-lines : length (linesOf (cut p)) < L .fewest-lines → Breaks L p 4 (under 5 (length (linesOf (cut p))))
   too-many-lines : L .most-lines < length (linesOf (cut p)) → Breaks L p 4 (under 5 (length (linesOf (cut p))))
-  -- 6 to 13: a rule of the layout's list is broken by the lines
+  -- 6 to 13 and 17: a rule of the layout's list is broken by the lines
   a-line-rule : (j : ℕ) (r : Rule) → getElem? (L .rules) j ≡ some r → r .broken (linesOf (cut p)) ≡ true → Breaks L p (5 + j) (under (r .number) (r .line))

@@ -1,10 +1,13 @@
 pub mod Bytes
 pub mod Letters
+pub mod Decimal
 pub mod Mod97
 pub mod Mod10
 pub mod Lines
 pub mod Characters
 pub mod Latin
+pub mod Iso8859
+pub mod Charsets
 pub mod Rules
 pub mod Kinds
 pub mod Verdict

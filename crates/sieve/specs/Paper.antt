@@ -1,7 +1,7 @@
 -- The paper's number and values for each case of the enums that the code answers with. Assumes nothing.
 use Prim.Native.Nat.{ℕ}
 use Rattle.sieve.specs.declared.Fault.{Fault}
-use Rattle.sieve.specs.declared.Fault.the-variants.{NoBytes, TooManyBytes, BadCharacter, MixedBreaks, LineCount, NotFixedText, NotEmpty, Missing, TooLong, BadForm, BadCheckDigits, Unpaired, TooLongTogether, OutsideText, NoRoom}
+use Rattle.sieve.specs.declared.Fault.the-variants.{NoBytes, TooManyBytes, BadCharacter, MixedBreaks, LineCount, NotFixedText, NotEmpty, Missing, TooLong, BadForm, BadCheckDigits, Unpaired, TooLongTogether, OutsideText, NoRoom, UnreadCoding}
 use Rattle.sieve.specs.declared.Answer.{Answer}
 use Rattle.sieve.specs.declared.Answer.the-variants.{Accepted, Refused}
 use Rattle.sieve.specs.declared.Written.{Written}
@@ -24,6 +24,7 @@ paperFault (Unpaired i) = under 12 i
 paperFault (TooLongTogether i) = under 13 i
 paperFault (OutsideText i) = under 14 i
 paperFault NoRoom = under 15 0
+paperFault (UnreadCoding i) = under 17 i
 
 -- what the reader answers
 abbrev pub paper : Answer → Verdict

@@ -52,7 +52,7 @@ mixedBreaks ks = Option·map (under 4) (firstSuch (λ k. not (sameBreak (kind ks
 abbrev pub lineCount : Layout → List Bytes → Option Refusal
 lineCount L ls = found (not (within (L .fewest-lines) (L .most-lines) (length ls))) (under 5 (length ls))
 
--- 6 to 13: a rule about lines
+-- 6 to 13 and 17: a rule about lines
 abbrev pub aboutLines : List Bytes → Rule → Option Refusal
 aboutLines ls r = found (r .broken ls) (under (r .number) (r .line))
 

@@ -11,3 +11,7 @@ plain l w = record { most-bytes = l .bytes; fewest-lines = l .fewest; most-lines
 -- a layout without its rules about lines
 abbrev pub bare : Layout → Layout
 bare L = record { most-bytes = L .most-bytes; fewest-lines = L .fewest-lines; most-lines = L .most-lines; width = L .width; rules = [] }
+
+-- what it allows of a whole payload
+abbrev pub limitsOf : Layout → Limits
+limitsOf L = record { bytes = L .most-bytes; fewest = L .fewest-lines; most = L .most-lines }

@@ -8,6 +8,12 @@ pub enum Break {
     CrLf,
 }
 
+// A set of allowed characters.
+pub enum Charset {
+    Latin,
+    Iso8859,
+}
+
 // Why a payload or a bill is refused: a case for each refusal of the paper, in its order, with the line that it gives.
 pub enum Fault {
     NoBytes,
@@ -26,6 +32,8 @@ pub enum Fault {
     TooLongTogether(usize),
     OutsideText(usize),
     NoRoom,
+    // a coding that is not read: a layout that lets a line choose one has this refusal
+    UnreadCoding(usize),
 }
 
 // What the reader answers.
@@ -69,6 +77,7 @@ pub fn number_of(fault: Fault) -> u32
         Fault::TooLongTogether(_) => 13,
         Fault::OutsideText(_) => 14,
         Fault::NoRoom => 15,
+        Fault::UnreadCoding(_) => 17,
     }
 }
 
@@ -92,5 +101,6 @@ pub fn line_of(fault: Fault) -> usize
         Fault::TooLongTogether(i) => i,
         Fault::OutsideText(i) => i,
         Fault::NoRoom => 0,
+        Fault::UnreadCoding(i) => i,
     }
 }

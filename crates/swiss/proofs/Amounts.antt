@@ -1,101 +1,28 @@
 -- Amounts are numbers: an amount that line 19 may hold stands for 1 to 99999999999 cents, and each such number is the value of one. Assumes nothing.
-use Prim.Native.Nat.{ℕ, zero, suc, _+_, _-_, _*_, _/_, _%_, _^_, _≤_, _<_}
+use Prim.Native.Nat.{ℕ, suc, _+_, _-_, _*_, _/_, _%_, _^_, _≤_}
 use native.Mathlib.Nat.{pow-le-pow-right}
 use native.Mathlib.Omega.{arith}
-use mathlib.Core.Bool.{Bool, true, false, cond, _&&_, _||_, not, true≢false, and-eq-true-iff, or-true}
-use mathlib.Core.List.{[], _∷_, _++_, append-nil}
+use mathlib.Core.Bool.{Bool, true, false, _&&_, not, true≢false, and-eq-true-iff}
+use mathlib.Core.List.{[], _∷_, _++_}
 use mathlib.Core.Path.{_≡_, refl, sym, _∙_, ap}
-use lib.Dec.{eqb, leb, ltb, lit≤}
+use lib.Dec.{eqb, leb, lit≤}
 use lib.ListN.{length, getD, take, drop, length-append, take-append-drop, drop-of-length-le}
 use lib.Seq.{length-take-le, drop-cons, take-at, getD-at, drop-append-add}
-use borrow.Author.Tests.{ltb-true, ltb-false, leb-true, eqb-true, eqb-false, not-true, lt-ltb, le-ltb, le-leb, lt-leb, ne-eqb}
+use borrow.Author.Tests.{leb-true, eqb-true, not-true, le-leb, lt-leb}
 use Rattle.sieve.specs.Bytes.{Bytes, ascii, same, every}
+use Rattle.sieve.specs.Decimal.{decimalIn}
 use Rattle.sieve.specs.Letters.{digit}
 use Rattle.sieve.specs.Characters.{characters}
 use Rattle.sieve.specs.Mod97.{onto, number}
-use Rattle.sieve.proofs.Bounds.{is-within}
+use Rattle.sieve.proofs.Bounds.{is-within, same-is}
+use Rattle.sieve.proofs.Decimals.{digit-onto, digit-byte, number-after, number-below, digits, unled, digits-of-whole, Written, digits-written, written-unled}
 use Rattle.swiss.specs.Limits.{amountMost}
 use Rattle.swiss.specs.Forms.{amount}
 use Rattle.swiss.specs.Cents.{cents}
 
--- digits, and the number that they are read as
-
-digit-onto : (n x : ℕ) → digit x ≡ true → onto n x ≡ 10 * n + (x - 48)
-digit-onto n x h = rw h
-
-digit-byte : (d : ℕ) → d < 10 → digit (48 + d) ≡ true
-digit-byte d h = and-eq-true-iff _ _ .1 (le-leb 48 (48 + d) (omega arith), le-leb (48 + d) 57 (omega arith))
-
-number-after : (n : ℕ) (s t : Bytes) → number n (s ++ t) ≡ number (number n s) t
-unfolding number
-number-after n [] t = refl
-number-after n (x ∷ s) t = number-after (onto n x) s t
-
-number-below : (s : Bytes) (n m : ℕ) → every digit s ≡ true → n < 10 ^ m → number n s < 10 ^ (m + length s)
-unfolding number
-number-below [] n m h b = let e : m + 0 ≡ m = omega arith in rw e b
-number-below (x ∷ s) n m h b =
-    let (hx, hs) = and-eq-true-iff _ _ .0 h in
-    let e : m + suc (length s) ≡ suc m + length s = omega arith in
-    let (_, top) = is-within 48 57 x hx in
-    rw (e, digit-onto n x hx) (number-below s (10 * n + (x - 48)) (suc m) hs (omega arith))
-
--- the digits of a number in front of a text, at most k of them
-digits : ℕ → ℕ → Bytes → Bytes
-digits zero n s = s
-digits (suc k) n s = cond (ltb n 10) ((48 + n) ∷ s) (digits k (n / 10) ((48 + n % 10) ∷ s))
-
 -- how a number of cents is written, with at most k digits of francs
 written : ℕ → ℕ → Bytes
 written k n = digits k (n / 100) [] ++ 46 ∷ (48 + n / 10 % 10) ∷ (48 + n % 10) ∷ []
-
--- what is read is what was written
-
-few : (k n : ℕ) (s : Bytes) → n < 10 → digits (suc k) n s ≡ (48 + n) ∷ s
-unfolding digits
-few k n s h = rw (lt-ltb n 10 h)
-
-many : (k n : ℕ) (s : Bytes) → 10 ≤ n → digits (suc k) n s ≡ digits k (n / 10) ((48 + n % 10) ∷ s)
-unfolding digits
-many k n s h = rw (le-ltb n 10 h)
-
-digits-of-number : (t s : Bytes) (k n : ℕ) → every digit t ≡ true → 1 ≤ n → digits (length t + k) (number n t) s ≡ digits k n (t ++ s)
-unfolding number
-digits-of-number [] s k n h b = let e : 0 + k ≡ k = omega arith in rw e
-digits-of-number (x ∷ t) s k n h b =
-    let (hx, ht) = and-eq-true-iff _ _ .0 h in
-    let (low, top) = is-within 48 57 x hx in
-    let m = 10 * n + (x - 48) in
-    let e : suc (length t) + k ≡ length t + suc k = omega arith in
-    let q : m / 10 ≡ n = omega arith in
-    let r : 48 + m % 10 ≡ x = omega arith in
-    rw (e, digit-onto n x hx) (digits-of-number t s (suc k) m ht (omega arith) ∙ (many k m (t ++ s) (omega arith) ∙ rw (q, r)))
-
--- no zero in front, save alone
-abbrev unled : Bytes → Bool
-unled w = eqb (length w) 1 || not (eqb (getD w 0 0) 48)
-
-digits-of-whole : (w : Bytes) (k : ℕ) → 1 ≤ length w → length w ≤ k → every digit w ≡ true → unled w ≡ true → digits k (number 0 w) [] ≡ w
-unfolding number
-digits-of-whole [] k a b h l = absurd (omega arith)
-digits-of-whole (x ∷ []) k a b h l =
-    let (hx, _) = and-eq-true-iff _ _ .0 h in
-    let (low, top) = is-within 48 57 x hx in
-    let m = 10 * 0 + (x - 48) in
-    let e : k ≡ suc (k - 1) = omega arith in
-    let r : 48 + m ≡ x = omega arith in
-    rw (e, digit-onto 0 x hx) (few (k - 1) m [] (omega arith) ∙ rw r)
-digits-of-whole (x ∷ y ∷ w) k a b h l =
-    let t = y ∷ w in
-    let (hx, ht) = and-eq-true-iff _ _ .0 h in
-    let (low, top) = is-within 48 57 x hx in
-    let m = 10 * 0 + (x - 48) in
-    let x≢48 = eqb-false x 48 (not-true _ (rw (ne-eqb (length (x ∷ t)) 1 (λ z. omega arith)) at l)) in
-    let e : k ≡ length t + suc (k - length (x ∷ t)) = omega arith in
-    let r : 48 + m ≡ x = omega arith in
-    rw (e, digit-onto 0 x hx)
-    (digits-of-number t [] (suc (k - length (x ∷ t))) m ht (omega (arith, x≢48))
-    ∙ (few (k - length (x ∷ t)) m (t ++ []) (omega arith) ∙ rw (r, append-nil t)))
 
 -- the parts of an amount
 
@@ -225,7 +152,7 @@ one-amount-each s t hs ht e =
     sym (amount-written s hs k (omega arith)) ∙ (ap (written k) e ∙ amount-written t ht k (omega arith))
 
 some-cents : (s : Bytes) → amount s ≡ true → cents s ≡ 0 → ⊥
-unfolding written digits
+unfolding written digits decimalIn
 some-cents s h z =
     let e : written (suc (length s)) 0 ≡ s = ap (written (suc (length s))) (sym z) ∙ amount-written s h (suc (length s)) (omega arith) in
     true≢false (ap (λ t. same t (ascii "0.00")) e ∙ amount-parts s h .not-zero)
@@ -239,55 +166,6 @@ amount-in-cents s h b =
     (omega arith, most)
 
 -- each number in this range has an amount
-
--- r is what stands for n, in digits, in front of s
-record Written (k n : ℕ) (s r : Bytes) : Type 0 where
-  value : number 0 r ≡ number n s
-  digital : every digit s ≡ true → every digit r ≡ true
-  least : length s < length r
-  most : length r ≤ k + length s
-  front : 1 ≤ n → getD r 0 0 ≡ 48 → ⊥
-
-module _ (k n : ℕ) (s : Bytes) where
-  one-digit : n < 10 → Written (suc k) n s ((48 + n) ∷ s)
-  unfolding number
-  one-digit h =
-      let e : 10 * 0 + (48 + n - 48) ≡ n = omega arith in
-      record {
-        value = rw (digit-onto 0 (48 + n) (digit-byte n h), e);
-        digital = λ hs. and-eq-true-iff _ _ .1 (digit-byte n h, hs);
-        least = omega arith;
-        most = omega arith;
-        front = λ m z. omega arith;
-      }
-
-  more-digits : (r : Bytes) → 10 ≤ n → Written k (n / 10) ((48 + n % 10) ∷ s) r → Written (suc k) n s r
-  unfolding number
-  more-digits r h x =
-      let d = 48 + n % 10 in
-      let is-digit = digit-byte (n % 10) (omega arith) in
-      let e : 10 * (n / 10) + (d - 48) ≡ n = omega arith in
-      record {
-        value = x .value ∙ rw (digit-onto (n / 10) d is-digit, e);
-        digital = λ hs. x .digital (and-eq-true-iff _ _ .1 (is-digit, hs));
-        least = omega (arith, x .least);
-        most = omega (arith, x .most);
-        front = λ m. x .front (omega arith);
-      }
-
-digits-written : (k n : ℕ) (s : Bytes) → n < 10 ^ suc k → Written (suc k) n s (digits (suc k) n s)
-digits-written zero n s h = rw (few 0 n s h) (one-digit 0 n s h)
-digits-written (suc k) n s h = go (ltb n 10) refl (digits-written k (n / 10) ((48 + n % 10) ∷ s) (omega arith))
-  where
-    go : (b : Bool) → ltb n 10 ≡ b → Written (suc k) (n / 10) ((48 + n % 10) ∷ s) (digits (suc k) (n / 10) ((48 + n % 10) ∷ s)) → Written (suc (suc k)) n s (digits (suc (suc k)) n s)
-    go true e x = rw (few (suc k) n s (ltb-true n 10 e)) (one-digit (suc k) n s (ltb-true n 10 e))
-    go false e x = rw (many (suc k) n s (ltb-false n 10 e)) (more-digits (suc k) n s _ (ltb-false n 10 e) x)
-
-same-is : (s t : Bytes) → same s t ≡ true → s ≡ t
-same-is [] [] h = refl
-same-is [] (y ∷ t) h = absurd (true≢false (sym h))
-same-is (x ∷ s) [] h = absurd (true≢false (sym h))
-same-is (x ∷ s) (y ∷ t) h = let (hx, hs) = and-eq-true-iff _ _ .0 h in rw (eqb-true x y hx, same-is s t hs)
 
 zero-cents : cents (ascii "0.00") ≡ 0
 unfolding cents number
@@ -306,19 +184,12 @@ module _ (n : ℕ) (some : 1 ≤ n) (most : n ≤ 99999999999) where
   whole-written : Written 9 (n / 100) [] w
   whole-written = digits-written 8 (n / 100) [] (omega arith)
 
-  whole-unled : unled w ≡ true
-  whole-unled = go (n / 100) refl
-    where
-      go : (m : ℕ) → n / 100 ≡ m → unled w ≡ true
-      go zero e = rw (e, few 8 0 [] (lit≤ tt))
-      go (suc m) e = rw (ne-eqb (getD w 0 0) 48 (whole-written .front (omega arith))) (or-true (eqb (length w) 1))
-
   parts : Parts w c d
   parts =
       record {
         francs = whole-written .least;
         whole = whole-written .digital refl;
-        lead = whole-unled;
+        lead = written-unled (n / 100) (omega arith);
         tenths = digit-byte (n / 10 % 10) (omega arith);
         hundredths = digit-byte (n % 10) (omega arith);
       }

@@ -26,6 +26,11 @@ small-rules : sieve.smallRules rules ≡ true
 unfolding rules sieve.smallRules flatten
 small-rules = refl
 
+-- no rule of the Swiss bill has a number over 13
+low-rules : sieve.numbersTo 13 rules ≡ true
+unfolding rules sieve.numbersTo flatten
+low-rules = refl
+
 pub small-findings : (p : Bytes) → sieve.Each sieve.Small (first (findings swiss p))
 unfolding swiss
 small-findings = sieve.small-findings swiss (lit≤ tt) small-rules
@@ -41,7 +46,7 @@ low-place p r h = sieve.small-verdict swiss (lit≤ tt) small-rules p r h .place
 -- no verdict is 14 or 15
 pub never-14-or-15 : (p : Bytes) (r : Refusal) → verdict swiss p ≡ refused r → r .number ≤ 13
 unfolding swiss
-never-14-or-15 p r h = sieve.small-verdict swiss (lit≤ tt) small-rules p r h .number
+never-14-or-15 = sieve.verdict-number swiss 13 (lit≤ tt) low-rules
 
 -- an accepted payload has 31 to 34 lines
 pub line-count : (p : Bytes) (n : ℕ) (k : Break) → verdict swiss p ≡ accepted n k → (31 ≤ n) × (n ≤ 34)

@@ -2,6 +2,7 @@
 use findings::fault_of;
 use lines::clear;
 use sieve::Answer;
+use sieve::Charset;
 use swiss::limits::LIMITS;
 use swiss_rules::rules;
 use whole::whole;
@@ -15,7 +16,7 @@ ghost use Rattle.whole.specs.Judged.{IsJudged};
 pub fn judge(payload: &[u8], places: &mut [u16; 68]) -> Answer
     ensures { λ r. ⌜ IsJudged swiss (now (payload .entry)) r (now (places .exit)) ⌝ }
 {
-    match whole(payload, LIMITS, places) {
+    match whole(payload, LIMITS, Charset::Latin, places) {
         Answer::Refused(f) => Answer::Refused(f),
         Answer::Accepted(n, k) => {
             let found = rules(payload, places, n);

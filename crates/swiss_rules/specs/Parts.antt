@@ -34,8 +34,3 @@ middle = flatten (reserved ∷ payment ∷ address 21 (isEmpty 21) ∷ [])
 -- lines 28 to 34, and those that go together
 unfoldable pub back : List Rule
 back = flatten (reference ∷ information ∷ procedures ∷ (pairing ∷ together ∷ []) ∷ [])
-
--- the places are those of a payload's lines, and the count is theirs
-pub record Counted (p : Bytes) (places : List ℕ) (count : ℕ) : Type 0 where
-  pub listed : places ≡ listed p
-  pub counted : count ≡ length (linesOf (cut p))

@@ -22,8 +22,8 @@ ghost use Prim.Native.Nat.{_≤_};
 ghost use Rattle.sieve.specs.Lines.{cut, linesOf};
 ghost use Rattle.swiss.specs.Swiss.{header, account, address, reserved, payment, reference, information, paired, rules};
 ghost use Rattle.findings.specs.Findings.{finds, from};
-ghost use Rattle.lines.specs.Listed.{listed};
-ghost use Rattle.swiss_rules.specs.Parts.{absentIf, IsRight, front, middle, back, Counted};
+ghost use Rattle.lines.specs.Listed.{listed, Counted};
+ghost use Rattle.swiss_rules.specs.Parts.{absentIf, IsRight, front, middle, back};
 
 // Lines 1 to 3.
 pub fn header(kind: &[u8], version: &[u8], coding: &[u8]) -> Finding

@@ -7,12 +7,13 @@ use mathlib.Core.Logic.{_≢_}
 use mathlib.Core.Path.{_≡_, refl}
 use lib.ListN.{length, take}
 use borrow.Author.Tests.{ne-eqb}
+use Rattle.sieve.specs.declared.Charset.{Charset}
 use Rattle.sieve.specs.Bytes.{Bytes}
 use Rattle.sieve.specs.Characters.{breakWidth, lineFeeds}
 use Rattle.sieve.specs.Lawful.{Plain, no-more, one-more}
 use Rattle.sieve.proofs.Heads.{Head, lf, crlf, other, head}
-use Rattle.sieve.specs.Latin.{latin}
-use Rattle.sieve.proofs.Latin.{lawful}
+use Rattle.sieve.specs.Charsets.{ofSet}
+use Rattle.sieve.proofs.Charsets.{set-lawful}
 
 -- the first n bytes are there, and f of them are LF
 pub record Front (n f : ℕ) (s : Bytes) : Type 0 where
@@ -25,9 +26,9 @@ plain-front no-more = record { there = omega arith; feeds = refl }
 plain-front (one-more {x = x} a b p) =
     let r = plain-front p in record { there = omega arith; feeds = rw (ne-eqb x 10 a, zero-add) (r .feeds) }
 
--- an allowed character holds no LF
-pub character-front : (s : Bytes) → Front (latin s) 0 s
-character-front s = plain-front (lawful .plain s)
+-- a character of any set holds no LF
+pub character-front : (set : Charset) (s : Bytes) → Front (ofSet set s) 0 s
+character-front set s = plain-front (set-lawful set .plain s)
 
 -- a break is there, and holds one
 pub break-fits : (s : Bytes) → breakWidth s ≤ length s

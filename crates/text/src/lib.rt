@@ -1,11 +1,14 @@
 // Characters, breaks and lines of any bytes: how wide a character or a break is, and the line finder.
 use sieve::Break;
+use sieve::Charset;
 ghost use mathlib.Core.Path.{_≡_};
 ghost use Prim.Native.Nat.{_+_};
 ghost use lib.ListN.{length, drop, getD};
 ghost use Rattle.sieve.specs.Bytes.{every, firstSuch};
 ghost use Rattle.sieve.specs.Lines.{breakBytes, ofBreak};
 ghost use Rattle.sieve.specs.Characters.{breakWidth};
+ghost use Rattle.sieve.specs.Charsets.{ofSet};
+ghost use Rattle.sieve.specs.Iso8859.{isoByte};
 ghost use Rattle.sieve.specs.Latin.{inOne, inTwo, inThree, latin};
 ghost use Rattle.text.specs.LinesIn.{lineOf};
 ghost use Rattle.text.specs.Results.{IsLineAt, IsPlaceOf, strayAs};
@@ -125,6 +128,23 @@ pub fn width(s: &[u8], at: usize) -> usize
         return 3;
     }
     0
+}
+
+// Whether a byte is a character of ISO 8859-1: 20 to 7E, A0 to FF.
+fn in_iso(x: u8) -> bool
+    ensures { λ r. ⌜ r ≡ isoByte x ⌝ }
+{
+    in_one(x) | (0xA0 <= x) & (x <= 0xFF)
+}
+
+// The width of the character of a set that begins at `at`; 0 where none begins.
+pub fn width_in(set: Charset, s: &[u8], at: usize) -> usize
+    ensures { λ r. ⌜ r ≡ ofSet set (drop at (now (s .entry))) ⌝ }
+{
+    match set {
+        Charset::Latin => width(s, at),
+        Charset::Iso8859 => { if in_iso(byte(s, at, 0)) { 1 } else { 0 } }
+    }
 }
 
 // The width of the break that begins at `at`, LF or CR directly followed by LF; 0 where none begins.

@@ -8,6 +8,7 @@ use lines::Parted;
 use lines::Walked;
 use records::Record;
 use sieve::Break;
+use sieve::Charset;
 use text::Stray;
 
 fn write_first(n: usize) {
@@ -91,7 +92,7 @@ fn write_place(s: &[u8], n: usize) {
 
 fn write_answer(s: &[u8]) {
     let mut places = [0; 68];
-    let told = lines::walk(s, &mut places);
+    let told = lines::walk(s, Charset::Latin, &mut places);
     let walked = told.walked;
     let parted = told.parted;
     write_walked(walked);

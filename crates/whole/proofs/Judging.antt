@@ -13,16 +13,21 @@ use Rattle.sieve.specs.declared.Answer.the-variants.{Accepted, Refused}
 use Rattle.sieve.specs.declared.Break.{Break}
 use Rattle.sieve.specs.declared.Fault.{Fault}
 use Rattle.sieve.specs.Bytes.{Bytes}
+use Rattle.sieve.specs.Characters.{Width}
 use Rattle.sieve.specs.Lines.{cut, linesOf, billOf}
 use Rattle.sieve.specs.Paper.{paperFault, paper}
 use Rattle.sieve.specs.Rules.{Layout}
-use Rattle.sieve.specs.Verdict.{Verdict, accepted, refused, findings, first, verdict}
-use Rattle.sieve.specs.Whole.{bare}
+use Rattle.sieve.specs.Verdict.{Verdict, accepted, refused, findings, first, settled, verdict}
+use Rattle.sieve.specs.Whole.{plain, bare, limitsOf}
 use Rattle.sieve.proofs.Findings.{found-none, settled-accepts, verdict-is, clear}
 use Rattle.sieve.proofs.Stages.{inLines, whole-refused, lines-kept, lines-broken}
 use Rattle.lines.specs.Listed.{room, greatest, listed}
 use Rattle.lines.proofs.Listed.{listed-length}
 use Rattle.whole.specs.Judged.{judgedPlaces, IsJudged}
+
+found-alike : (L : Layout) (p : Bytes) (w : Width) → L .width (linesOf (cut p)) ≡ w → first (findings (plain (limitsOf L) w) p) ≡ first (findings (bare L) p)
+unfolding findings
+found-alike L p w e = rw e
 
 module _ (L : Layout) (p : Bytes) where
   judged : {r : Answer} {after : List ℕ} → verdict L p ≡ paper r → after ≡ judgedPlaces p (paper r) → IsJudged L p r after
@@ -48,6 +53,12 @@ module _ (L : Layout) (p : Bytes) where
         let accepted-is = settled-accepts (billOf p) (first (findings (bare L) p)) (sym (verdict-is (bare L) p) ∙ sym (is .answer)) in
         let short : length p ≤ L .most-bytes = ltb-false _ _ (found-none _ _ (clear (bare L) p (accepted-is .0) .not-too-many)) in
         (is .places ∙ sym (ap (judgedPlaces p) (is .answer)) ∙ rw (le-leb (length p) greatest (omega arith)), sym (accepted-is .1))
+
+-- the characters that a payload's lines choose serve as the layout's own: no other lines are asked
+pub by-its-lines : (L : Layout) (p : Bytes) (w : Width) → L .width (linesOf (cut p)) ≡ w → {r : Answer} {after : List ℕ} → IsJudged (plain (limitsOf L) w) p r after → IsJudged (bare L) p r after
+by-its-lines L p w e is =
+    let same : verdict (plain (limitsOf L) w) p ≡ verdict (bare L) p = verdict-is _ p ∙ ap (settled (billOf p)) (found-alike L p w e) ∙ sym (verdict-is (bare L) p) in
+    record { answer = is .answer ∙ same; places = is .places ∙ ap (judgedPlaces p) same }
 
 -- the list stays as long as it is
 pub judged-length : {L : Layout} {p : Bytes} {r : Answer} {after : List ℕ} → IsJudged L p r after → length after ≡ room

@@ -1,4 +1,5 @@
 mod Stages
 pub mod Judging
 pub mod Shown
+pub mod Reading
 pub mod OneAnswer

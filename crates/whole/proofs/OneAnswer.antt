@@ -6,4 +6,4 @@ use Rattle.whole.proofs as fn
 
 -- the list at exit too
 pub one-whole : OneAnswer fn.whole.ended fn.whole.Reads.Learnt
-one-whole κs a x y v w h k = (one-answer x y (h .answer ∙ sym (k .answer)), ap (λ d. (tt, (tt, (d, tt)))) (h .places ∙ sym (k .places)))
+one-whole κs a x y v w h k = (one-answer x y (h .answer ∙ sym (k .answer)), ap (λ d. (tt, (tt, (tt, (d, tt))))) (h .places ∙ sym (k .places)))

@@ -14,8 +14,7 @@ use Rattle.sieve.specs.declared.Fault.{Fault}
 use Rattle.sieve.specs.declared.Fault.the-variants.{NoBytes, TooManyBytes, BadCharacter, MixedBreaks, LineCount}
 use Rattle.sieve.specs.declared.Limits.{Limits}
 use Rattle.sieve.specs.Bytes.{Bytes, within, firstSuch}
-use Rattle.sieve.specs.Characters.{badPlace, lineFeeds}
-use Rattle.sieve.specs.Latin.{latin}
+use Rattle.sieve.specs.Characters.{Width, badPlace, lineFeeds}
 use Rattle.sieve.specs.Lines.{cut, linesOf, breaksOf, kind, sameBreak, billOf}
 use Rattle.sieve.specs.Paper.{paperFault, paper}
 use Rattle.sieve.specs.Rules.{Layout}
@@ -31,9 +30,9 @@ use Rattle.lines.specs.Listed.{room}
 use Rattle.lines.specs.Walking.{walked, parted, breaksIn, IsTold}
 use Rattle.whole.specs.Judged.{judgedPlaces, IsJudged, IsParted}
 
-module _ (limits : Limits) (p : Bytes) where
+module _ (limits : Limits) (w : Width) (p : Bytes) where
   abbrev L : Layout
-  L = plain limits latin
+  L = plain limits w
 
   abbrev ls : List Bytes
   ls = linesOf (cut p)
@@ -69,10 +68,10 @@ module _ (limits : Limits) (p : Bytes) where
 
       -- rule 3
 
-      pub bad-character : {t : Told} {after : List ℕ} (i at : ℕ) → IsTold p (badPlace latin p) t after → t .walked ≡ Bad i at → IsJudged L p (Refused (BadCharacter i at)) after
-      bad-character {t} {after} i at told is = go (badPlace latin p) refl told
+      pub bad-character : {t : Told} {after : List ℕ} (i at : ℕ) → IsTold p (badPlace w p) t after → t .walked ≡ Bad i at → IsJudged L p (Refused (BadCharacter i at)) after
+      bad-character {t} {after} i at told is = go (badPlace w p) refl told
         where
-          go : (o : Option ℕ) → badPlace latin p ≡ o → IsTold p o t after → IsJudged L p (Refused (BadCharacter i at)) after
+          go : (o : Option ℕ) → badPlace w p ≡ o → IsTold p o t after → IsJudged L p (Refused (BadCharacter i at)) after
           go none e s = let c : Bad i at ≡ Clean = sym is ∙ s .walked in let z : _≡_ {A = ℕ} 0 1 = cc in absurd (omega arith)
           go (some j) e s =
               let c : Bad i at ≡ Bad (1 + lineFeeds (take j p)) j = sym is ∙ s .walked in
@@ -80,16 +79,16 @@ module _ (limits : Limits) (p : Bytes) where
               let b : at ≡ j = cc in
               refused-so (BadCharacter i at) (stopped _ not-too-many (rw (e, a, b))) refl (s .places)
 
-      pub clean : {t : Told} {after : List ℕ} → IsTold p (badPlace latin p) t after → t .walked ≡ Clean → IsParted limits p (t .parted) after
-      clean {t} {after} told is = go (badPlace latin p) refl told
+      pub clean : {t : Told} {after : List ℕ} → IsTold p (badPlace w p) t after → t .walked ≡ Clean → IsParted L p (t .parted) after
+      clean {t} {after} told is = go (badPlace w p) refl told
         where
-          go : (o : Option ℕ) → badPlace latin p ≡ o → IsTold p o t after → IsParted limits p (t .parted) after
+          go : (o : Option ℕ) → badPlace w p ≡ o → IsTold p o t after → IsParted L p (t .parted) after
           go (some j) e s = let c : Clean ≡ Bad (1 + lineFeeds (take j p)) j = sym is ∙ s .walked in let z : _≡_ {A = ℕ} 0 1 = cc in absurd (omega arith)
           go none e s = record { parted = s .parted; places = s .places; hangs = passed _ not-too-many (rw e) }
 
   -- rules 4 and 5
 
-  module _ {q : Parted} {places : List ℕ} (is : IsParted limits p q places) where
+  module _ {q : Parted} {places : List ℕ} (is : IsParted L p q places) where
     abbrev odd : Option ℕ
     odd = firstSuch (λ k. not (sameBreak (kind ks) k)) 1 ks
 
@@ -122,12 +121,12 @@ module _ (limits : Limits) (p : Bytes) where
             }
 
     pub wrong-count : {r : Answer} {after : List ℕ} (k : Break) (n : ℕ) → q ≡ Alike k n → within (limits .fewest) (limits .most) n ≡ false → r ≡ Refused (LineCount n) → after ≡ replicate room 0 → IsJudged L p r after
-    wrong-count k n e w = let o = alike k n e in refused-so (LineCount n) (stopped _ (o .hangs) (rw (← o .lines, w)))
+    wrong-count k n e outside = let o = alike k n e in refused-so (LineCount n) (stopped _ (o .hangs) (rw (← o .lines, outside)))
 
     pub kept : (k : Break) (n : ℕ) → q ≡ Alike k n → within (limits .fewest) (limits .most) n ≡ true → IsJudged L p (Accepted n k) places
     unfolding billOf
-    kept k n e w =
+    kept k n e inside =
         let o = alike k n e in
-        let nothing : first (findings L p) ≡ none = passed [] (o .hangs) (rw (← o .lines, w)) ∙ first-nil in
+        let nothing : first (findings L p) ≡ none = passed [] (o .hangs) (rw (← o .lines, inside)) ∙ first-nil in
         let v : verdict L p ≡ accepted n k = verdict-is L p ∙ rw (nothing, o .lines, o .break) in
         record { answer = sym v; places = is .places ∙ sym (ap (judgedPlaces p) v) }

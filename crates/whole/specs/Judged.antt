@@ -4,14 +4,11 @@ use mathlib.Core.List.{List, [], _∷_}
 use mathlib.Core.Path.{_≡_}
 use lib.ListN.{replicate}
 use Rattle.sieve.specs.declared.Answer.{Answer}
-use Rattle.sieve.specs.declared.Limits.{Limits}
 use Rattle.sieve.specs.Bytes.{Bytes}
-use Rattle.sieve.specs.Latin.{latin}
 use Rattle.sieve.specs.Lines.{cut, linesOf, breaksOf}
 use Rattle.sieve.specs.Paper.{paper}
 use Rattle.sieve.specs.Rules.{Layout}
 use Rattle.sieve.specs.Verdict.{Verdict, accepted, refused, mixedBreaks, lineCount, findings, first, verdict}
-use Rattle.sieve.specs.Whole.{plain}
 use Rattle.lines.specs.declared.Parted.{Parted}
 use Rattle.lines.specs.Listed.{room, listedShort}
 use Rattle.lines.specs.Walking.{breaksIn}
@@ -26,7 +23,7 @@ pub record IsJudged (L : Layout) (p : Bytes) (r : Answer) (after : List ℕ) : T
   pub places : after ≡ judgedPlaces p (verdict L p)
 
 -- what is known after the walk: the lines are parted so, lie at the places of this list, and rules 1 to 3 are kept
-pub record IsParted (limits : Limits) (p : Bytes) (q : Parted) (list : List ℕ) : Type 0 where
+pub record IsParted (L : Layout) (p : Bytes) (q : Parted) (list : List ℕ) : Type 0 where
   pub parted : q ≡ breaksIn p
   pub places : list ≡ listedShort p
-  pub hangs : let L = plain limits latin in first (findings L p) ≡ first (mixedBreaks (breaksOf (cut p)) ∷ lineCount L (linesOf (cut p)) ∷ [])
+  pub hangs : first (findings L p) ≡ first (mixedBreaks (breaksOf (cut p)) ∷ lineCount L (linesOf (cut p)) ∷ [])

@@ -4,11 +4,12 @@ use lines::Walked;
 use lines::clear;
 use lines::walk;
 use sieve::Answer;
+use sieve::Charset;
 use sieve::Fault;
 use sieve::Limits;
 ghost use mathlib.Core.Path.{_≡_};
 ghost use lib.ListN.{replicate};
-ghost use Rattle.sieve.specs.Latin.{latin};
+ghost use Rattle.sieve.specs.Charsets.{ofSet};
 ghost use Rattle.sieve.specs.Whole.{plain};
 ghost use Rattle.lines.specs.Listed.{room};
 ghost use Rattle.whole.specs.Judged.{IsJudged, IsParted};
@@ -23,9 +24,15 @@ fn refuse(places: &mut [u16; 68], fault: Fault) -> Answer
 }
 
 // Rules 4 and 5, by how the lines of a payload are parted.
-fn judge_breaks(payload: &[u8], parted: Parted, limits: Limits, places: &mut [u16; 68]) -> Answer
-    requires { ⌜ IsParted limits (now payload) parted (now places) ⌝ }
-    ensures { λ r. ⌜ IsJudged (plain limits latin) (now (payload .entry)) r (now (places .exit)) ⌝ }
+fn judge_breaks(
+    payload: &[u8],
+    parted: Parted,
+    limits: Limits,
+    set: Charset,
+    places: &mut [u16; 68],
+) -> Answer
+    requires { ⌜ IsParted (plain limits (ofSet set)) (now payload) parted (now places) ⌝ }
+    ensures { λ r. ⌜ IsJudged (plain limits (ofSet set)) (now (payload .entry)) r (now (places .exit)) ⌝ }
 {
     match parted {
         Parted::Unlike(i) => refuse(places, Fault::MixedBreaks(i)),
@@ -40,8 +47,8 @@ fn judge_breaks(payload: &[u8], parted: Parted, limits: Limits, places: &mut [u1
 }
 
 // What rules 1 to 5 say of any bytes, with the places of the lines of what they accept.
-pub fn whole(payload: &[u8], limits: Limits, places: &mut [u16; 68]) -> Answer
-    ensures { λ r. ⌜ IsJudged (plain limits latin) (now (payload .entry)) r (now (places .exit)) ⌝ }
+pub fn whole(payload: &[u8], limits: Limits, set: Charset, places: &mut [u16; 68]) -> Answer
+    ensures { λ r. ⌜ IsJudged (plain limits (ofSet set)) (now (payload .entry)) r (now (places .exit)) ⌝ }
 {
     if payload.len() == 0 {
         return refuse(places, Fault::NoBytes);
@@ -49,13 +56,13 @@ pub fn whole(payload: &[u8], limits: Limits, places: &mut [u16; 68]) -> Answer
     if limits.bytes < payload.len() {
         return refuse(places, Fault::TooManyBytes);
     }
-    let told = walk(payload, places);
+    let told = walk(payload, set, places);
     let walked = told.walked;
     match walked {
         Walked::Bad(i, at) => Answer::Refused(Fault::BadCharacter(i, at)),
         Walked::Clean => {
             let parted = told.parted;
-            judge_breaks(payload, parted, limits, places)
+            judge_breaks(payload, parted, limits, set, places)
         }
     }
 }

@@ -29,13 +29,13 @@ use Rattle.sieve.proofs.Room.{Short, short-alone}
 use Rattle.sieve.proofs.Together as together
 use Rattle.swiss.specs.Swiss.{swiss}
 use Rattle.swiss.proofs.Numbers.{small-findings}
-use Rattle.joining.proofs.Stages.{short-list}
+use Rattle.joining.proofs.Stages as stages
 use Rattle.writer.proofs.Suits.{suits}
 
 -- one answer, and one content of the destination
 pub one-writing : (text : Bytes) (list : List ℕ) (count : ℕ) (k : Break) (dest : Bytes) (q r : Written) (a b : Bytes)
     → IsWritten swiss text list count k dest q a → IsWritten swiss text list count k dest r b → (q ≡ r) × (a ≡ b)
-one-writing text list count k dest q r a b h j = (one-written q r (h .answer ∙ sym (j .answer)), h .lent ∙ sym (j .lent))
+one-writing text list count k dest q r a b = stages.one-writing
 
 module _ (text : Bytes) (list : List ℕ) (count : ℕ) (k : Break) (dest after : Bytes) where
   abbrev b : Bill
@@ -73,7 +73,7 @@ payload-again p n k rest dest after r h room w =
 
 pub list-too-short : {text dest after : Bytes} {list : List ℕ} {count : ℕ} {k : Break} {r : Written} → length list < 68 → IsWritten swiss text list count k dest r after → (r ≡ Refused NoRoom) × (after ≡ dest)
 unfolding swiss
-list-too-short h w = one-writing _ _ _ _ _ _ _ _ _ w (short-list h)
+list-too-short h w = stages.one-writing w (stages.short-list h)
 
 pub destination-too-short : (b : Bill) (text : Bytes) (list : List ℕ) (dest after : Bytes) (r : Written) → Keeps swiss b → 68 ≤ length list → handed text list (length (b .lines)) ≡ b .lines
     → NoneOutside (length text) (spans (length (b .lines)) list) → length dest < length (written b) → IsWritten swiss text list (length (b .lines)) (b .break) dest r after

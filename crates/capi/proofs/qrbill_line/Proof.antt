@@ -9,7 +9,7 @@ use Rattle.sieve.proofs.Bounds.{is-within}
 use Rattle.swiss.specs.Swiss.{swiss}
 use Rattle.whole.proofs.Judging.{judged-length}
 use Rattle.swiss_judge.proofs.Places.{all-shown}
-use Rattle.capi.specs.Calls.{listedPlace}
+use Rattle.packing.specs.Calls.{listedPlace}
 use borrow.Author.Needs.{needs}
 use Rattle.capi.proofs.qrbill_line.Statement.{statement}
 use Rattle.capi.proofs.qrbill_line.Tie as tie
@@ -41,12 +41,14 @@ returns c =
     rw refused-is
 
 returns-2 : tie.Need-returns-2
+unfolding swiss
 returns-2 c =
     let at-told = c .before .before .before in
     let shown = all-shown (rw (at-told .enum-told2 .given .1) at (at-told .before .before .judge .ensures)) in
     rw (accepted-is at-told, c .before .before .if1 .taken) (c .listed-place .ensures ∙ ap (λ (l : List ℕ). listedPlace l (at-told .before .before .before .before .before .args .line)) shown)
 
 returns-3 : tie.Need-returns-3
+unfolding swiss
 returns-3 c = rw (accepted-is (c .before), c .if1 .left)
 
 pub qrbill-line-spec : {M : Type 1} → statement M

@@ -9,7 +9,7 @@ use borrow.Author.Needs.{needs}
 use Rattle.sieve.specs.declared.Break.the-variants.{Lf}
 use Rattle.sieve.specs.Bytes.{Bytes}
 use Rattle.sieve.specs.Characters.{badPlace}
-use Rattle.sieve.specs.Latin.{latin}
+use Rattle.sieve.specs.Charsets.{ofSet}
 use Rattle.lines.specs.declared.Walked.the-variants.{Clean, Bad}
 use Rattle.lines.specs.declared.Parted.{Parted}
 use Rattle.lines.specs.declared.Parted.the-variants.{Alike}
@@ -26,9 +26,12 @@ clean-told : (s : Bytes) (o : Option ℕ) (p : Parted) (l : List ℕ) → Clean 
 clean-told s none p l h a b = record { walked = h; parted = a; places = b }
 clean-told s (some j) p l h a b = let z : _≡_ {A = ℕ} 0 1 = cc in absurd (omega arith)
 
--- the bytes, from where the walk has ended
+-- the bytes, from where the walk has ended, and the first bad place of them
 abbrev text : tie.After-come → Bytes
 text c = c .before .before .before .args .s .now
+
+abbrev bad : tie.After-come → Option ℕ
+bad c = badPlace (ofSet (c .before .before .before .args .set)) (text c)
 
 come-requires : tie.Need-come-requires
 come-requires c κs = search needs
@@ -55,7 +58,7 @@ returns : tie.Need-returns
 returns c =
     let found = c .before .before .before in
     let come = found .before .before in
-    bad-told (text come) (badPlace latin (text come)) _ _ _ (sym (found .walked .given .1) ∙ come .come .ensures .walked) (c .clear .ensures)
+    bad-told (text come) (bad come) _ _ _ (sym (found .walked .given .1) ∙ come .come .ensures .0) (c .clear .ensures)
 
 returns-2 : tie.Need-returns-2
 returns-2 c =
@@ -63,7 +66,7 @@ returns-2 c =
     let come = clean .before .before in
     let is = come .come .ensures in
     let e = clean .enum-told .given .1 in
-    clean-told (text come) (badPlace latin (text come)) _ _ (sym e ∙ is .walked) (c .parted-by .ensures ∙ is .parted e) (c .before .list .ensures)
+    clean-told (text come) (bad come) _ _ (sym e ∙ is .0) (c .parted-by .ensures ∙ is .1 .parted e) (c .before .list .ensures)
 
 pub walk-spec : {M : Type 1} → statement M
 walk-spec = tie.close (tie.spec come-requires enum-known-walked clear-requires enum-told add-lines list-requires parted-by-requires returns returns-2)

@@ -1,25 +1,16 @@
 -- `reader::read` meets its contract: what the verdict says of the payload leaves one way for the reading to end. Assumes nothing.
 use native.Mathlib.Omega.{arith}
-use Prim.Native.Nat.{ℕ}
-use mathlib.Core.List.{List}
-use mathlib.Core.Path.{_≡_, refl, sym, ap, _∙_}
-use Rattle.sieve.specs.declared.Answer.{Answer}
-use Rattle.sieve.specs.Bytes.{Bytes}
+use mathlib.Core.Path.{refl, sym, ap, _∙_}
 use Rattle.sieve.specs.Paper.{paper}
-use Rattle.sieve.specs.Reading.{Done, readAnswer, IsRead}
-use Rattle.sieve.specs.Verdict.{Verdict}
 use Rattle.sieve.proofs.ReaderPromises.{refused-unlisted, accepted-no-room, accepted-listed}
 use Rattle.swiss.specs.Swiss.{swiss}
 use Rattle.runs.proofs.Lays.{laid-in}
 use Rattle.whole.proofs.Judging.{judged-length}
+use Rattle.whole.proofs.Reading.{ends-so}
 use Rattle.swiss_judge.proofs.Places.{all-shown}
 use borrow.Author.Needs.{needs}
 use Rattle.reader.proofs.read.Statement.{statement}
 use Rattle.reader.proofs.read.Tie as tie
-
--- a reading that ends so
-so : {p : Bytes} {list after : List ℕ} {r : Answer} {d : Done Verdict} → readAnswer swiss p list ≡ d → paper r ≡ d .answer → after ≡ d .lent → IsRead swiss p list r after
-so e a l = record { answer = a ∙ sym (ap (λ d. d .answer) e); lent = l ∙ sym (ap (λ d. d .lent) e) }
 
 judge-requires : tie.Need-judge-requires
 judge-requires c κs = search needs
@@ -34,7 +25,7 @@ returns : tie.Need-returns
 unfolding swiss
 returns c =
     let verdict-is = sym (c .before .before .before .before .judge .ensures .answer) ∙ ap paper (c .before .before .n .given .1) in
-    so (accepted-no-room swiss _ _ _ _ verdict-is (c .if1 .taken)) refl refl
+    ends-so (accepted-no-room swiss _ _ _ _ verdict-is (c .if1 .taken)) refl refl
 
 slice-aggregate-fill : tie.Need-slice-aggregate-fill
 slice-aggregate-fill c =
@@ -47,7 +38,7 @@ fill-requires c κs = search needs
 returns-2 : tie.Need-returns-2
 returns-2 c =
     let verdict-is = sym (c .before .before .before .judge .ensures .answer) ∙ ap paper (c .before .f .given .1) in
-    so (refused-unlisted swiss _ _ _ verdict-is) refl refl
+    ends-so (refused-unlisted swiss _ _ _ verdict-is) refl refl
 
 same-length : tie.Need-same-length
 same-length c = search needs
@@ -61,7 +52,7 @@ returns-3 c =
     let shown = all-shown (rw (at-room .before .before .n .given .1) at judged) in
     let verdict-is = sym (judged .answer) ∙ ap paper (at-room .before .before .n .given .1) in
     let laid = c .before .before .fill .ensures .1 ∙ laid-in _ _ (omega (arith, size, at-room .if1 .left)) in
-    so (accepted-listed swiss _ _ _ _ verdict-is (at-room .if1 .left)) refl (rw (size, shown) at laid)
+    ends-so (accepted-listed swiss _ _ _ _ verdict-is (at-room .if1 .left)) refl (rw (size, shown) at laid)
 
 pub read-spec : {M : Type 1} → statement M
 read-spec =

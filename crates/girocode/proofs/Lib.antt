@@ -1,0 +1,5 @@
+pub mod DemandThree
+pub mod Promises
+pub mod Numbers
+pub mod Size
+pub mod Amounts

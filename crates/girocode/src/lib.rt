@@ -1,0 +1,2 @@
+// The girocode.
+pub mod limits;
