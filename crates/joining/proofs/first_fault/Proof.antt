@@ -1,7 +1,7 @@
--- `joining::refuse` meets its contract: a stray break comes before the fault at hand. Assumes nothing.
+-- `joining::first_fault` meets its contract: a stray break comes before the fault at hand. Assumes nothing.
 use borrow.Author.Needs.{needs}
-use Rattle.joining.proofs.refuse.Statement.{statement}
-use Rattle.joining.proofs.refuse.Tie as tie
+use Rattle.joining.proofs.first_fault.Statement.{statement}
+use Rattle.joining.proofs.first_fault.Tie as tie
 
 first-stray-requires : tie.Need-first-stray-requires
 first-stray-requires c κs = search needs
@@ -18,5 +18,5 @@ returns c = rw (← c .before .before .before .first-stray .ensures, c .before .
 returns-2 : tie.Need-returns-2
 returns-2 c = rw (← c .before .before .first-stray .ensures, c .enum-told .given .1)
 
-pub refuse-spec : {M : Type 1} → statement M
-refuse-spec = tie.close (tie.spec first-stray-requires enum-known-i enum-told returns returns-2)
+pub first-fault-spec : {M : Type 1} → statement M
+first-fault-spec = tie.close (tie.spec first-stray-requires enum-known-i enum-told returns returns-2)
