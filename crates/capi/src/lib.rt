@@ -3,13 +3,12 @@
 use glance::Account;
 use glance::glance;
 use packing::break_for;
-use packing::listed_place;
-use packing::packed_count;
+use packing::packed_answer;
+use packing::packed_laying;
+use packing::packed_line;
 use packing::packed_place;
-use packing::packed_refusal;
+use packing::packed_verdict;
 use reader::read;
-use sieve::Answer;
-use sieve::Written;
 use swiss::limits::MOST_LINES;
 use swiss_judge::judge;
 use swiss_judge::verdict;
@@ -27,10 +26,7 @@ ghost use Rattle.capi.specs.Calls.{packedAccount};
 pub extern "C" fn qrbill_read(payload: &[u8]) -> u32
     ensures { λ r. ⌜ r ≡ packed (verdict swiss (now (payload .entry))) ⌝ }
 {
-    match verdict(payload) {
-        Answer::Accepted(n, _) => n as u32,
-        Answer::Refused(fault) => packed_refusal(fault),
-    }
+    packed_answer(verdict(payload))
 }
 
 // 1000 times the start plus the length of a line of an accepted payload, counted from 1; 0 where the payload is refused
@@ -40,17 +36,8 @@ pub extern "C" fn qrbill_line(payload: &[u8], line: u32) -> u32
     ensures { λ r. ⌜ r ≡ packedLine swiss (now (payload .entry)) line (verdict swiss (now (payload .entry))) ⌝ }
 {
     let mut places = [0; 68];
-    match judge(payload, &mut places) {
-        Answer::Refused(_) => 0,
-        Answer::Accepted(_, _) => {
-            let n = line as usize;
-            if (1 <= n) & (n <= MOST_LINES) {
-                listed_place(&places, n)
-            } else {
-                0
-            }
-        }
-    }
+    let answer = judge(payload, &mut places);
+    packed_line(answer, &places, line, MOST_LINES)
 }
 
 // The line count of an accepted payload, plus 100 for CR LF, with the places in the list's front; else 1000 times the
@@ -59,10 +46,7 @@ pub extern "C" fn qrbill_line(payload: &[u8], line: u32) -> u32
 pub extern "C" fn qrbill_places(payload: &[u8], list: &mut [u16]) -> u32
     ensures { λ r. ⌜ IsPackedRead swiss (now (payload .entry)) (now (list .entry)) r (now (list .exit)) ⌝ }
 {
-    match read(payload, list) {
-        Answer::Accepted(n, brk) => packed_count(n, brk),
-        Answer::Refused(fault) => packed_refusal(fault),
-    }
+    packed_verdict(read(payload, list))
 }
 
 // 1000 times the start plus the length of the IBAN, by the first 37 bytes; 0 where it is not known.
@@ -89,8 +73,5 @@ pub extern "C" fn qrbill_write(
         ⌜ IsPackedWritten swiss (now (text .entry)) (now (list .entry)) count (breakFor crlf) (now (dest .entry)) r
         (now (dest .exit)) ⌝ }
 {
-    match write(text, list, count as usize, break_for(crlf), dest) {
-        Written::Length(n) => n as u32,
-        Written::Refused(fault) => packed_refusal(fault),
-    }
+    packed_laying(write(text, list, count as usize, break_for(crlf), dest))
 }

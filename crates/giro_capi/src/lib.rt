@@ -6,11 +6,10 @@ use giro_reader::read;
 use giro_writer::write;
 use girocode::limits::MOST_LINES;
 use packing::break_for;
-use packing::listed_place;
-use packing::packed_count;
-use packing::packed_refusal;
-use sieve::Answer;
-use sieve::Written;
+use packing::packed_answer;
+use packing::packed_laying;
+use packing::packed_line;
+use packing::packed_verdict;
 ghost use mathlib.Core.Path.{_≡_};
 ghost use Rattle.sieve.specs.Verdict.{verdict};
 ghost use Rattle.girocode.specs.Girocode.{girocode};
@@ -22,10 +21,7 @@ ghost use Rattle.packing.specs.Calls.{packedLine, IsPackedRead, IsPackedWritten
 pub extern "C" fn girocode_read(payload: &[u8]) -> u32
     ensures { λ r. ⌜ r ≡ packed (verdict girocode (now (payload .entry))) ⌝ }
 {
-    match verdict(payload) {
-        Answer::Accepted(n, _) => n as u32,
-        Answer::Refused(fault) => packed_refusal(fault),
-    }
+    packed_answer(verdict(payload))
 }
 
 // 1000 times the start plus the length of a line of an accepted girocode, counted from 1; 0 where it is refused or the
@@ -35,17 +31,8 @@ pub extern "C" fn girocode_line(payload: &[u8], line: u32) -> u32
     ensures { λ r. ⌜ r ≡ packedLine girocode (now (payload .entry)) line (verdict girocode (now (payload .entry))) ⌝ }
 {
     let mut places = [0; 68];
-    match judge(payload, &mut places) {
-        Answer::Refused(_) => 0,
-        Answer::Accepted(_, _) => {
-            let n = line as usize;
-            if (1 <= n) & (n <= MOST_LINES) {
-                listed_place(&places, n)
-            } else {
-                0
-            }
-        }
-    }
+    let answer = judge(payload, &mut places);
+    packed_line(answer, &places, line, MOST_LINES)
 }
 
 // The line count of an accepted girocode, plus 100 for CR LF, with the places in the list's front; else 1000 times the
@@ -54,10 +41,7 @@ pub extern "C" fn girocode_line(payload: &[u8], line: u32) -> u32
 pub extern "C" fn girocode_places(payload: &[u8], list: &mut [u16]) -> u32
     ensures { λ r. ⌜ IsPackedRead girocode (now (payload .entry)) (now (list .entry)) r (now (list .exit)) ⌝ }
 {
-    match read(payload, list) {
-        Answer::Accepted(n, brk) => packed_count(n, brk),
-        Answer::Refused(fault) => packed_refusal(fault),
-    }
+    packed_verdict(read(payload, list))
 }
 
 // How many bytes of a girocode were written; else 1000 times the refusal plus the line, and the destination is as it was.
@@ -73,8 +57,5 @@ pub extern "C" fn girocode_write(
         ⌜ IsPackedWritten girocode (now (text .entry)) (now (list .entry)) count (breakFor crlf) (now (dest .entry)) r
         (now (dest .exit)) ⌝ }
 {
-    match write(text, list, count as usize, break_for(crlf), dest) {
-        Written::Length(n) => n as u32,
-        Written::Refused(fault) => packed_refusal(fault),
-    }
+    packed_laying(write(text, list, count as usize, break_for(crlf), dest))
 }

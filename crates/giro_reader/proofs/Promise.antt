@@ -1,7 +1,7 @@
 -- What a user of the girocode's reader may rely on, stated on its contract. Assumes nothing.
 use Prim.Native.Nat.{ℕ, _≤_, _<_}
 use mathlib.Core.List.{List}
-use mathlib.Core.Path.{_≡_, sym, ap, _∙_}
+use mathlib.Core.Path.{_≡_}
 use lib.Dec.{lit≤}
 use lib.ListN.{length, drop}
 use Rattle.sieve.specs.declared.Answer.{Answer}
@@ -18,8 +18,6 @@ use Rattle.sieve.specs.Pointing.{BeginsNeither}
 use Rattle.sieve.specs.Reading.{IsRead}
 use Rattle.sieve.specs.Verdict.{accepted, verdict}
 use Rattle.sieve.specs.Writing.{handed}
-use Rattle.sieve.proofs.PaperLosesNothing.{one-answer}
-use Rattle.sieve.proofs.ReaderPromises.{accepted-no-room, accepted-reads, refused-reads, bill-reads}
 use Rattle.girocode.specs.Coding.{chosen}
 use Rattle.girocode.specs.Girocode.{girocode}
 use Rattle.girocode.proofs.DemandThree.{chosen-lawful}
@@ -34,28 +32,22 @@ one-reading p list q r a b = reading.one-reading
 pub accepted-is-bill : (p : Bytes) (list after : List ℕ) (n : ℕ) (k : Break) → 24 ≤ length list → IsRead girocode p list (Accepted n k) after
     → (b : Bill) × Is girocode p n k b × (handed p after n ≡ b .lines) × (drop 24 after ≡ drop 24 list)
 unfolding girocode
-accepted-is-bill p list after n k room h =
-    let r = accepted-reads girocode chosen-lawful (lit≤ tt) p list room n k (sym (h .answer)) in
-    (r .bill, r .is, rw (h .lent) (r .cut-out), rw (h .lent) (r .rest))
+accepted-is-bill p list after n k = reading.accepted-bill girocode chosen-lawful (lit≤ tt)
 
 -- every girocode that keeps the rules is accepted, with its line count and its break
 pub bill-is-accepted : (b : Bill) (list after : List ℕ) (r : Answer) → 24 ≤ length list → Keeps girocode b → IsRead girocode (written b) list r after → r ≡ Accepted (length (b .lines)) (b .break)
 unfolding girocode
-bill-is-accepted b list after r room h k = one-answer r _ (k .answer ∙ bill-reads girocode chosen-lawful (lit≤ tt) b list room h)
+bill-is-accepted b list after r = reading.bill-accepted girocode chosen-lawful (lit≤ tt)
 
 -- any other payload is refused under the earliest rule that it breaks, and no number of the list changes
 pub refused-is-earliest : (p : Bytes) (list after : List ℕ) (f : Fault) → 24 ≤ length list → IsRead girocode p list (Refused f) after → Earliest girocode p (paperFault f) × (after ≡ list)
 unfolding girocode
-refused-is-earliest p list after f room h =
-    let (e, l) = refused-reads girocode chosen-lawful (lit≤ tt) p list room (paperFault f) (sym (h .answer)) in
-    (e, h .lent ∙ l)
+refused-is-earliest p list after f = reading.refused-earliest girocode chosen-lawful (lit≤ tt)
 
 -- too little room is told where nothing else is wrong, and no number of the list changes
 pub too-little-room : (p : Bytes) (list after : List ℕ) (n : ℕ) (k : Break) (r : Answer) → length list < 24 → verdict girocode p ≡ accepted n k → IsRead girocode p list r after → (r ≡ Refused NoRoom) × (after ≡ list)
 unfolding girocode
-too-little-room p list after n k r short v h =
-    let e = accepted-no-room girocode p list n k v short in
-    (one-answer r _ (h .answer ∙ ap (λ d. d .answer) e), h .lent ∙ ap (λ d. d .lent) e)
+too-little-room p list after n k r = reading.short-told
 
 -- and nowhere else
 pub room-alone : (p : Bytes) (list after : List ℕ) → IsRead girocode p list (Refused NoRoom) after → (length list < 24) × ((n : ℕ) × ((k : Break) × (verdict girocode p ≡ accepted n k)))

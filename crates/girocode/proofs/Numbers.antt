@@ -1,26 +1,17 @@
--- What a verdict on a girocode names is small, and so is what its reader and its writer answer. Assumes nothing.
+-- What a verdict on a girocode names is small. Assumes nothing.
 use Prim.Native.Nat.{ℕ, _≤_, _<_}
 use mathlib.Core.Bool.{true}
-use mathlib.Core.List.{List, flatten}
+use mathlib.Core.List.{flatten}
 use mathlib.Core.Logic.{_≢_}
 use mathlib.Core.Option.{Option·getD}
 use mathlib.Core.Path.{_≡_, refl}
 use lib.Dec.{lit≤}
-use Rattle.sieve.specs.declared.Answer.{Answer}
-use Rattle.sieve.specs.declared.Answer.the-variants.{Accepted, Refused}
 use Rattle.sieve.specs.declared.Break.{Break}
-use Rattle.sieve.specs.declared.Fault.{Fault}
-use Rattle.sieve.specs.declared.Written.{Written}
-use Rattle.sieve.specs.declared.Written.the-variants.{Length, Refused as NotWritten}
 use Rattle.sieve.specs.Bytes.{Bytes}
-use Rattle.sieve.specs.Paper.{paperFault}
-use Rattle.sieve.specs.Reading.{IsRead}
-use Rattle.sieve.specs.Writing.{IsWritten}
 use Rattle.sieve.specs.Verdict.{Refusal, accepted, refused, findings, first, verdict}
 use Rattle.sieve.proofs.Numbers as sieve
-use Rattle.sieve.proofs.SmallAnswers as answers
 use Rattle.girocode.specs.Girocode.{rules, girocode}
-use Rattle.girocode.proofs.DemandThree.{chosen-lawful, girocode-demand-three}
+use Rattle.girocode.proofs.DemandThree.{girocode-demand-three}
 
 small-rules : sieve.smallRules rules ≡ true
 unfolding rules sieve.smallRules flatten
@@ -56,21 +47,3 @@ never-14-or-15 p r h = sieve.never-14-or-15 r (sieve.small-verdict girocode (lit
 pub line-count : (p : Bytes) (n : ℕ) (k : Break) → verdict girocode p ≡ accepted n k → (7 ≤ n) × (n ≤ 12)
 unfolding girocode
 line-count = sieve.line-count girocode girocode-demand-three
-
-module _ {p : Bytes} {list after : List ℕ} {q : Answer} (h : IsRead girocode p list q after) where
-  pub read-line : {f : Fault} → q ≡ Refused f → paperFault f .line < 1000
-  unfolding girocode
-  read-line = answers.read-line girocode chosen-lawful (lit≤ tt) small-findings h
-
-  pub read-count : {n : ℕ} {k : Break} → q ≡ Accepted n k → n ≤ 12
-  unfolding girocode
-  read-count = answers.read-count girocode chosen-lawful (lit≤ tt) small-findings h
-
-module _ {text dest after : Bytes} {list : List ℕ} {count : ℕ} {k : Break} {w : Written} (h : IsWritten girocode text list count k dest w after) where
-  pub write-line : {f : Fault} → count < 1000 → w ≡ NotWritten f → paperFault f .line < 1000
-  unfolding girocode
-  write-line = answers.write-line girocode chosen-lawful (lit≤ tt) small-findings h
-
-  pub write-length : {n : ℕ} → w ≡ Length n → n ≤ 331
-  unfolding girocode
-  write-length = answers.write-length girocode chosen-lawful (lit≤ tt) small-findings h

@@ -29,12 +29,12 @@ use Rattle.swiss.specs.Forms.{iban}
 use Rattle.swiss.specs.Swiss.{rules, swiss}
 use Rattle.swiss.proofs.DemandThree.{swiss-demand-three}
 use Rattle.text.specs.LinesIn.{linesFrom, linesIn, lineOf}
-use Rattle.text.proofs.LinesLie.{line-lies}
+use Rattle.text.proofs.LinesLie.{line-lies, line-text}
 use Rattle.glance.specs.declared.Account.the-variants.{At}
 use Rattle.glance.specs.Glance.{looked, wholeLines, foundIn, unlessFound, look, glance, accountAs}
 use Rattle.glance.proofs.Kept.{none-in-front, length-1, length-2, length-3, length-4, iban-4, checks-4}
 use Rattle.glance.proofs.Leading.{leading, cut-leading, take-leading, length-leading}
-use Rattle.glance.proofs.Lying.{line-text, lies-in-all}
+use Rattle.glance.proofs.Lying.{lies-in-all}
 
 -- payloads that agree in their first 37 bytes, and in whether there are more, get the same answer
 pub same-beginning : (p q : Bytes) → take looked p ≡ take looked q → ltb looked (length p) ≡ ltb looked (length q) → glance p ≡ glance q

@@ -14,15 +14,18 @@ use mir.Syntax.{w16}
 use mir.Val.{Fits}
 use borrow.Author.Tests.{lt-ltb, le-ltb, ltb-true, ltb-false}
 use Rattle.sieve.specs.declared.Break.{Break}
-use Rattle.sieve.specs.Bytes.{Bytes, firstSuch}
+use Rattle.sieve.specs.declared.Limits.{Limits}
+use Rattle.sieve.specs.Bytes.{Bytes, within, firstSuch}
 use Rattle.sieve.specs.Lines.{ofBreak, breakBytes, afterBreaks, joined}
 use Rattle.sieve.specs.Verdict.{Refusal, underAt}
 use Rattle.sieve.specs.Places.{placed}
 use Rattle.sieve.specs.Writing.{outside, spans, handed, strayBreak}
+use Rattle.sieve.proofs.Bounds.{is-within}
 use Rattle.sieve.proofs.Cutting.{break-length}
 use Rattle.text.specs.declared.Stray.the-variants.{Nowhere, At}
 use Rattle.text.specs.Results.{strayAs}
-use Rattle.joining.specs.Handing.{spanAt, lineAt, firstOutside, Inside, bytesOf, withBreak, breakIf}
+use Rattle.joining.specs.declared.Outside.the-variants.{Nowhere as NotOutside}
+use Rattle.joining.specs.Handing.{spanAt, lineAt, outsideAs, firstOutside, Inside, Joinable, bytesOf, withBreak, breakIf, Bounds}
 
 -- the places of the entries from i on, and the lines there
 spans-next : (list : List ℕ) (count i : ℕ) → i < count → spans (count - i) (drop (2 * i) list) ≡ spanAt list i ∷ spans (count - (i + 1)) (drop (2 * (i + 1)) list)
@@ -82,8 +85,19 @@ module _ (text : Bytes) (list : List ℕ) (count : ℕ) where
   none-from e zero h = sym outside-first ∙ e
   none-from e (suc i) h = rw (← add-one i) (inside-here i (omega arith) (none-from e i (omega arith)) .1)
 
-  pub all-inside : 2 * count ≤ length list → firstOutside text list count ≡ none → Inside text list count
+  all-inside : 2 * count ≤ length list → firstOutside text list count ≡ none → Inside text list count
   all-inside size e i h = record { there = omega arith; inside = inside-here i h (none-from e i (omega arith)) .0 }
+
+  -- as many as the limits allow can be joined
+  pub can-be-joined : {l : Limits} → Bounds l → 2 * l .most ≤ length list → within (l .fewest) (l .most) count ≡ true → firstOutside text list count ≡ none → Joinable text list count
+  can-be-joined {l} bounds size good e =
+      let (least, most) = is-within (l .fewest) (l .most) count good in
+      record { inside = all-inside (omega arith) e; one-or-more = omega (arith, bounds .one-or-more); few = omega (arith, bounds .few) }
+
+-- what first_outside's answer says of the places
+pub nowhere-outside : (o : Option ℕ) → NotOutside ≡ outsideAs o → o ≡ none
+nowhere-outside none e = refl
+nowhere-outside (some i) e = let z : _≡_ {A = ℕ} 0 1 = cc in absurd (omega arith)
 
 -- from place `at` on, a line in hand, whose length was read from 16 bits, and the break after it
 

@@ -1,18 +1,23 @@
--- What the joining's parts answer: places outside the text, stray breaks, a refusal, a line with its break. Assumes nothing.
+-- What the joining's parts answer: places outside the text, stray breaks, the first fault, a line with its break; and how far lines come before a reader is asked, and after it. Assumes nothing.
 use Prim.Native.Nat.{ℕ, _+_, _*_, _≤_, _<_}
-use mathlib.Core.Bool.{Bool, true, false}
+use mathlib.Core.Bool.{Bool, true, false, cond, not, _&&_}
 use mathlib.Core.List.{List, _++_}
 use mathlib.Core.Option.{Option, some, none, Option·getD}
+use mathlib.Core.Path.{_≡_}
+use lib.Dec.{eqb, ltb}
 use lib.ListN.{length, getD}
+use Rattle.sieve.specs.declared.Answer.{Answer}
+use Rattle.sieve.specs.declared.Answer.the-variants.{Accepted, Refused as ReaderRefused}
 use Rattle.sieve.specs.declared.Break.{Break}
 use Rattle.sieve.specs.declared.Fault.{Fault}
-use Rattle.sieve.specs.declared.Fault.the-variants.{BadCharacter}
+use Rattle.sieve.specs.declared.Fault.the-variants.{TooManyBytes, BadCharacter, LineCount, OutsideText, NoRoom}
+use Rattle.sieve.specs.declared.Limits.{Limits}
 use Rattle.sieve.specs.declared.Written.{Written}
-use Rattle.sieve.specs.declared.Written.the-variants.{Refused}
-use Rattle.sieve.specs.Bytes.{Bytes, firstSuch}
+use Rattle.sieve.specs.declared.Written.the-variants.{Length, Refused}
+use Rattle.sieve.specs.Bytes.{Bytes, within, firstSuch, over}
 use Rattle.sieve.specs.Lines.{breakBytes, joined}
 use Rattle.sieve.specs.Verdict.{Refusal}
-use Rattle.sieve.specs.Places.{placed}
+use Rattle.sieve.specs.Places.{entryNumbers, placed}
 use Rattle.sieve.specs.Writing.{Span, outside, spans, part, handed, strayBreak}
 use Rattle.joining.specs.declared.Outside.{Outside}
 use Rattle.joining.specs.declared.Outside.the-variants.{Nowhere, At}
@@ -20,6 +25,8 @@ use Rattle.joining.specs.declared.StrayByte.{StrayByte}
 use Rattle.joining.specs.declared.StrayByte.the-variants.{Nowhere as NoStray, At as StrayAt}
 use Rattle.joining.specs.declared.After.{After}
 use Rattle.joining.specs.declared.After.the-variants.{Nothing, ABreak}
+use Rattle.joining.specs.declared.Gathered.{Gathered}
+use Rattle.joining.specs.declared.Gathered.the-variants.{Bytes as OfBytes, Refused as NotGathered}
 
 -- the place that entry i of a list gives, counted from 0, and the part of the text there
 abbrev pub spanAt : List ℕ → ℕ → Span
@@ -73,9 +80,12 @@ unfoldable pub firstStray : Bytes → List ℕ → ℕ → Break → StrayByte
 firstStray text list count k = strayByteAs (strayBreak 1 (placed 0 k (handed text list count)))
 
 -- a stray break comes before what else is at fault
-abbrev pub refusal : StrayByte → Fault → Written
-refusal NoStray f = Refused f
-refusal (StrayAt i at) f = Refused (BadCharacter i at)
+abbrev pub strayOr : StrayByte → Fault → Fault
+strayOr NoStray f = f
+strayOr (StrayAt i at) f = BadCharacter i at
+
+abbrev pub firstFault : Bytes → List ℕ → ℕ → Break → Fault → Fault
+firstFault text list count k f = strayOr (firstStray text list count k) f
 
 -- a line, and the break after it where one is asked for
 abbrev pub withBreak : Bytes → After → Bytes
@@ -86,3 +96,47 @@ withBreak l (ABreak k) = l ++ breakBytes k
 abbrev pub breakIf : Bool → Break → After
 breakIf true k = ABreak k
 breakIf false k = Nothing
+
+-- limits of lines that can be joined
+pub record Bounds (l : Limits) : Type 0 where
+  pub one-or-more : 1 ≤ l .fewest
+  pub few : l .most ≤ mostJoined
+
+-- before a reader is asked: the list, the count, the places, and how many bytes the lines are when they are joined
+
+abbrev pub gatheredBytes : ℕ → Bytes → List ℕ → ℕ → Break → Gathered
+gatheredBytes most text list count k =
+    let n = length (bytesOf text list count k) in
+    cond (ltb most n) (NotGathered (firstFault text list count k TooManyBytes)) (OfBytes n)
+
+abbrev pub gatheredPlaces : Outside → Gathered → Gathered
+gatheredPlaces (At i) g = NotGathered (OutsideText i)
+gatheredPlaces Nowhere g = g
+
+unfoldable pub gathered : Limits → Bytes → List ℕ → ℕ → Break → Gathered
+gathered l text list count k =
+    cond (ltb (length list) (entryNumbers * l .most)) (NotGathered NoRoom)
+    (cond (not (within (l .fewest) (l .most) count)) (NotGathered (LineCount count))
+    (gatheredPlaces (outsideAs (firstOutside text list count)) (gatheredBytes (l .bytes) text list count k)))
+
+-- lines that come to n bytes when they are joined
+pub record OfLength (text : Bytes) (list : List ℕ) (count : ℕ) (k : Break) (n : ℕ) : Type 0 where
+  pub joinable : Joinable text list count
+  pub bytes-are : n ≡ length (bytesOf text list count k)
+
+-- after a reader has answered: it counts m lines and finds the break j, those that were handed over; then room
+abbrev pub readAs : ℕ → Break → ℕ → Break → Bool
+readAs count k m j = eqb m count && eqb (length (breakBytes j)) (length (breakBytes k))
+
+abbrev pub inRoom : ℕ → ℕ → Written
+inRoom room n = cond (ltb room n) (Refused NoRoom) (Length n)
+
+abbrev pub settled : Bytes → List ℕ → ℕ → Break → ℕ → Answer → Written
+settled text list count k room (ReaderRefused f) = Refused (firstFault text list count k f)
+settled text list count k room (Accepted m j) =
+    cond (readAs count k m j) (inRoom room (length (bytesOf text list count k))) (Refused (firstFault text list count k (LineCount m)))
+
+-- what a destination holds after such an answer: the bytes in its front, or what it held
+abbrev pub heldAfter : Bytes → Bytes → Written → Bytes
+heldAfter bytes dest (Length n) = over dest bytes
+heldAfter bytes dest (Refused f) = dest

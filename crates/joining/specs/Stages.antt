@@ -1,4 +1,4 @@
--- What is known at each stage of the writer of any layout. Assumes nothing.
+-- What is asked of a layout whose lines are joined, and what is known of them when its reader is asked. Assumes nothing.
 use Prim.Native.Nat.{ℕ, _≤_}
 use mathlib.Core.List.{List, [], _∷_}
 use mathlib.Core.Option.{Option}
@@ -12,7 +12,7 @@ use Rattle.sieve.specs.Verdict.{Refusal, findings, first}
 use Rattle.sieve.specs.Places.{placed}
 use Rattle.sieve.specs.Reading.{noRoom}
 use Rattle.sieve.specs.Writing.{handed, strayBreak, writeFindings}
-use Rattle.joining.specs.Handing.{Inside, mostJoined, Joinable, bytesOf}
+use Rattle.joining.specs.Handing.{mostJoined, bytesOf, OfLength}
 
 -- what is asked of a layout: two lines or more, and no more than can be joined; no allowed character holds CR or LF
 pub record Suits (L : Layout) : Type 0 where
@@ -25,31 +25,13 @@ module _ (L : Layout) (text : Bytes) (list : List ℕ) (count : ℕ) (k : Break)
   abbrev pub Reached : List (Option Refusal) → Type 0
   Reached os = first (writeFindings L text list count k (length dest)) ≡ first os
 
-  -- the last findings: whether there is room, before that what the reader finds, and before that a stray break
-
-  abbrev pub fromRoom : List (Option Refusal)
-  fromRoom = noRoom (length dest) (length (bytesOf text list count k)) ∷ []
-
-  abbrev pub fromReader : List (Option Refusal)
-  fromReader = first (findings L (bytesOf text list count k)) ∷ fromRoom
-
+  -- the last findings: a stray break, then what the reader finds, then whether there is room
   abbrev pub fromStray : List (Option Refusal)
-  fromStray = strayBreak 1 (placed 0 k (handed text list count)) ∷ fromReader
+  fromStray = strayBreak 1 (placed 0 k (handed text list count)) ∷ first (findings L (bytesOf text list count k)) ∷ noRoom (length dest) (length (bytesOf text list count k)) ∷ []
 
-  -- the list, the count and the places are good
-  pub record InText : Type 0 where
-    pub joinable : Joinable text list count
-    pub enough : L .fewest-lines ≤ count
-    pub reached : Reached fromStray
-
-  -- joined they are n bytes, no more than the layout allows
+  -- the list, the count and the places are good; joined the lines are n bytes, no more than the layout allows
   pub record Joined (n : ℕ) : Type 0 where
-    pub in-text : InText
-    pub bytes-are : n ≡ length (bytesOf text list count k)
+    pub of-length : OfLength text list count k n
+    pub enough : L .fewest-lines ≤ count
     pub fits : n ≤ L .most-bytes
-
-  -- the reader accepts them, so that no line holds a break
-  pub record Readable (n : ℕ) : Type 0 where
-    pub inside : Inside text list count
-    pub bytes-are : n ≡ length (bytesOf text list count k)
-    pub reached : Reached fromRoom
+    pub reached : Reached fromStray

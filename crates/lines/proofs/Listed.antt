@@ -1,26 +1,21 @@
 -- What the list of places says of each line: where it lies in the payload. Assumes nothing.
 use Prim.Native.Nat.{ℕ, zero, suc, _+_, _-_, _*_, _≤_}
 use native.Mathlib.Omega.{arith}
-use mathlib.Core.List.{List, [], _∷_, _++_, map}
-use mathlib.Core.Path.{_≡_, refl, sym, ap, _∙_}
-use lib.ListN.{length, getD, take, drop, length-append, List·getD-map}
+use mathlib.Core.List.{List, [], _∷_, _++_}
+use mathlib.Core.Path.{_≡_, ap, _∙_}
+use lib.ListN.{length, getD, take, drop, length-append}
 use Rattle.sieve.specs.Bytes.{Bytes}
 use Rattle.sieve.specs.Lines.{breakBytes, Next, gluedAfter, cut, linesOf}
 use Rattle.sieve.specs.Rules.{line}
 use Rattle.sieve.proofs.Cutting.{glued-cut}
 use Rattle.sieve.proofs.Placing.{entries-length, entry-at}
 use Rattle.text.specs.LinesIn.{linesFrom, linesIn, lineOf}
-use Rattle.text.proofs.LinesLie.{absent, line-lies}
+use Rattle.text.proofs.LinesLie.{line-lies, line-text}
 use Rattle.lines.specs.Listed.{capacity, room, listed}
 
 pub listed-length : (p : Bytes) → length (listed p) ≡ room
 unfolding listed
 listed-length p = entries-length capacity (length p) (linesIn p)
-
-texts : (at : ℕ) (l : Bytes) (ns : List Next) → map (λ m. m .text) (linesFrom at l ns) ≡ l ∷ map (λ m. m .line) ns
-unfolding linesFrom
-texts at l [] = refl
-texts at l (n ∷ ns) = ap (λ (t : List Bytes). l ∷ t) (texts _ (n .line) ns)
 
 inside : (at : ℕ) (l : Bytes) (ns : List Next) (i end : ℕ) → at + length (l ++ gluedAfter ns) ≡ end → let m = getD (linesFrom at l ns) i (record { start = end; text = [] }) in m .start + length (m .text) ≤ end
 unfolding linesFrom
@@ -29,11 +24,6 @@ inside at l [] (suc i) end h = omega arith
 inside at l (n ∷ ns) zero end h = omega (arith, length-append l (gluedAfter (n ∷ ns)))
 inside at l (n ∷ ns) (suc i) end h =
     inside _ (n .line) ns i end (omega (arith, length-append l (gluedAfter (n ∷ ns)), length-append (breakBytes (n .break)) (n .line ++ gluedAfter ns)))
-
--- line n of the list of lines is line n of the bytes
-its-text : (p : Bytes) (n : ℕ) → lineOf p n .text ≡ line n (linesOf (cut p))
-unfolding linesIn lineOf
-its-text p n = sym (List·getD-map (λ m. m .text) (linesIn p) (n - 1) (absent p)) ∙ ap (λ (t : List Bytes). getD t (n - 1) []) (texts 0 (cut p .first) (cut p .rest))
 
 -- where the list says that line n lies
 pub record LineAtPlace (p : Bytes) (n start bytes : ℕ) : Type 0 where
@@ -50,7 +40,7 @@ listed-line p n h k =
     rw (start, bytes, a, b)
     (record {
       within = inside 0 (cut p .first) (cut p .rest) i (length p) (omega (arith, ap length (glued-cut p)));
-      is = line-lies p n ∙ its-text p n;
+      is = line-lies p n ∙ line-text p n;
     })
 
 -- the part from its start to its end is the line

@@ -1,27 +1,34 @@
--- What a layout's reader and writer answer, packed, is what the calls have to answer; and the place of a line in the front of a list. Assumes nothing.
-use Prim.Native.Nat.{ℕ, zero, suc, _+_, _-_, _*_, _<_}
+-- Over any layout: a verdict, a reading and a writing pack, and packed they are what the calls have to answer; so is the place of a line in the walk's list. Assumes nothing.
+use Prim.Native.Nat.{ℕ, zero, suc, _+_, _-_, _*_, _≤_, _<_}
 use native.Mathlib.Nat.{le-of-suc-le-suc, not-suc-le-zero}
 use native.Mathlib.Omega.{arith}
+use mathlib.Core.Bool.{Bool, true, false, cond}
 use mathlib.Core.List.{List, [], _∷_}
 use mathlib.Core.Path.{_≡_, refl, sym, ap, _∙_}
 use lib.ListN.{getD, take}
 use Rattle.sieve.specs.declared.Answer.{Answer}
+use Rattle.sieve.specs.declared.Answer.the-variants.{Accepted, Refused}
 use Rattle.sieve.specs.declared.Break.{Break}
 use Rattle.sieve.specs.declared.Written.{Written}
-use Rattle.sieve.specs.Bytes.{Bytes}
+use Rattle.sieve.specs.declared.Written.the-variants.{Length, Refused as NotWritten}
+use Rattle.sieve.specs.Bytes.{Bytes, within}
+use Rattle.sieve.specs.Lawful.{Lawful}
+use Rattle.sieve.specs.Lines.{billOf}
 use Rattle.sieve.specs.Paper.{paper, paperWritten}
+use Rattle.sieve.specs.Places.{placesOf, listSize}
 use Rattle.sieve.specs.Reading.{IsRead}
 use Rattle.sieve.specs.Rules.{Layout}
+use Rattle.sieve.specs.Verdict.{Verdict, accepted, refused, findings, first, verdict}
 use Rattle.sieve.specs.Writing.{IsWritten}
-use Rattle.packing.specs.Packing.{packedVerdict, packedLaying}
-use Rattle.packing.specs.Calls.{listedPlace, IsPackedRead, IsPackedWritten}
-
-pub read-packs : {L : Layout} {p : Bytes} {list after : List ℕ} {q r : Answer} {n : ℕ} → IsRead L p list q after → q ≡ r → n ≡ packedVerdict (paper r) → IsPackedRead L p list n after
-read-packs h e m = record { number = m ∙ ap packedVerdict (sym (ap paper e) ∙ h .answer); lent = h .lent }
-
-pub write-packs : {L : Layout} {text dest after : Bytes} {list : List ℕ} {count : ℕ} {k : Break} {q r : Written} {n : ℕ} → IsWritten L text list count k dest q after → q ≡ r → n ≡ packedLaying (paperWritten r)
-    → IsPackedWritten L text list count k dest n after
-write-packs h e m = record { number = m ∙ ap packedLaying (sym (ap paperWritten e) ∙ h .answer); lent = h .lent }
+use Rattle.sieve.proofs.Bounds.{is-within}
+use Rattle.sieve.proofs.DemandThree.{demand-three}
+use Rattle.sieve.proofs.Findings.{settled-refuses, verdict-is}
+use Rattle.sieve.proofs.Numbers.{Each, Small, line-count}
+use Rattle.sieve.proofs.SmallAnswers.{read-line, read-count, write-line, write-length}
+use Rattle.whole.specs.Judged.{IsJudged}
+use Rattle.whole.proofs.Shown.{shown}
+use Rattle.packing.specs.Packing.{Packs, packedVerdict, PacksLaying, packedLaying}
+use Rattle.packing.specs.Calls.{listedPlace, linePlace, packedLine, IsPackedRead, IsPackedWritten}
 
 -- the front of a list has the numbers of the list
 in-front : (m : ℕ) (l : List ℕ) (i : ℕ) → i < m → getD (take m l) i 0 ≡ getD l i 0
@@ -31,5 +38,60 @@ in-front (suc m) (x ∷ l) zero h = refl
 in-front (suc m) (x ∷ l) (suc i) h = in-front m l i (le-of-suc-le-suc h)
 
 -- so it has the places of the lines that it lists
-pub listed-in-front : (m : ℕ) (l : List ℕ) (i : ℕ) → 2 * (i - 1) + 1 < m → listedPlace (take m l) i ≡ listedPlace l i
+listed-in-front : (m : ℕ) (l : List ℕ) (i : ℕ) → 2 * (i - 1) + 1 < m → listedPlace (take m l) i ≡ listedPlace l i
 listed-in-front m l i h = rw (in-front m l (2 * (i - 1)) (omega arith), in-front m l (2 * (i - 1) + 1) h)
+
+-- what is packed of a reading and of a writing is what the calls have to answer
+
+pub read-packed : {L : Layout} {p : Bytes} {list after : List ℕ} {q : Answer} {n : ℕ} → IsRead L p list q after → n ≡ packedVerdict (paper q) → IsPackedRead L p list n after
+read-packed h e = record { number = e ∙ ap packedVerdict (h .answer); lent = h .lent }
+
+pub written-packed : {L : Layout} {text dest after : Bytes} {list : List ℕ} {count : ℕ} {k : Break} {w : Written} {n : ℕ} → IsWritten L text list count k dest w after → n ≡ packedLaying (paperWritten w)
+    → IsPackedWritten L text list count k dest n after
+written-packed h e = record { number = e ∙ ap packedLaying (h .answer); lent = h .lent }
+
+-- a layout whose answers pack: what is found in a payload is small, and the walk's list has room for its lines and counts its bytes
+pub record Packable (L : Layout) : Type 0 where
+  pub laws : (ls : List Bytes) → Lawful (L .width ls)
+  pub two : 2 ≤ L .fewest-lines
+  pub small : (p : Bytes) → Each Small (first (findings L p))
+  pub few : L .most-lines ≤ 34
+  pub short : L .most-bytes ≤ 65535
+
+module _ {L : Layout} (is : Packable L) where
+  -- what is answered packs: a verdict, a reading, a writing of fewer than 1000 lines
+
+  pub verdict-packs : (p : Bytes) → Packs (verdict L p)
+  verdict-packs p = go (verdict L p) refl
+    where
+      go : (v : Verdict) → verdict L p ≡ v → Packs v
+      go (accepted n k) e = omega (arith, line-count L (demand-three L (is .laws) (is .two)) p n k e, is .few)
+      go (refused r) e = is .small p r (settled-refuses (billOf p) (first (findings L p)) r (sym (verdict-is L p) ∙ e)) .line
+
+  pub reading-packs : {p : Bytes} {list after : List ℕ} {q : Answer} → IsRead L p list q after → Packs (paper q)
+  reading-packs {q = q} h = go q refl
+    where
+      go : (r : Answer) → q ≡ r → Packs (paper r)
+      go (Accepted n k) e = omega (arith, read-count L (is .laws) (is .two) (is .small) h e, is .few)
+      go (Refused f) e = read-line L (is .laws) (is .two) (is .small) h e
+
+  pub writing-packs : {text dest after : Bytes} {list : List ℕ} {count : ℕ} {k : Break} {w : Written} → IsWritten L text list count k dest w after → count < 1000 → PacksLaying (paperWritten w)
+  writing-packs {w = w} h low = go w refl
+    where
+      go : (r : Written) → w ≡ r → PacksLaying (paperWritten r)
+      go (Length n) e = omega (arith, write-length L (is .laws) (is .two) (is .small) h e, is .short)
+      go (NotWritten f) e = write-line L (is .laws) (is .two) (is .small) h low e
+
+  -- of a line that the layout may have, the walk's list says what the layout's list says
+  pub line-packed : {p : Bytes} {q : Answer} {places : List ℕ} → IsJudged L p q places → (i : ℕ) → linePlace (L .most-lines) places i (paper q) ≡ packedLine L p i (verdict L p)
+  line-packed {p} {q} {places} h i = rw (← h .answer) (go q refl)
+    where
+      go : (r : Answer) → q ≡ r → linePlace (L .most-lines) places i (paper r) ≡ packedLine L p i (paper r)
+      go (Refused f) e = refl
+      go (Accepted n k) e = listed (within 1 (L .most-lines) i) refl
+        where
+          listed : (b : Bool) → within 1 (L .most-lines) i ≡ b → cond b (listedPlace places i) 0 ≡ cond b (listedPlace (placesOf L (billOf p)) i) 0
+          listed false w = refl
+          listed true w =
+              let (least, most) = is-within 1 _ i w in
+              sym (listed-in-front (listSize L) places i (omega (arith, least, most))) ∙ ap (λ (l : List ℕ). listedPlace l i) (shown L p (rw e at h) (is .few) (is .short))

@@ -1,9 +1,9 @@
 -- What the calls for C of a layout answer: the place of a line; the reader and the writer, and what lent memory then holds. Assumes nothing.
-use Prim.Native.Nat.{ℕ, _+_, _-_, _*_}
+use Prim.Native.Nat.{ℕ, _+_, _-_, _*_, _≤_}
 use mathlib.Core.Bool.{cond}
 use mathlib.Core.List.{List}
 use mathlib.Core.Path.{_≡_}
-use lib.ListN.{getD}
+use lib.ListN.{length, getD}
 use Rattle.sieve.specs.declared.Break.{Break}
 use Rattle.sieve.specs.Bytes.{Bytes, within}
 use Rattle.sieve.specs.Lines.{billOf}
@@ -18,10 +18,19 @@ use Rattle.packing.specs.Packing.{packedPlace, packedVerdict, packedLayi
 abbrev pub listedPlace : List ℕ → ℕ → ℕ
 listedPlace places i = packedPlace (getD places (2 * (i - 1)) 0) (getD places (2 * (i - 1) + 1) 0)
 
--- of an accepted payload, for a line that the layout may have, of which an absent one lies at the end and has no bytes; else 0
+-- a list that lists so many lines, all of those that it has room for at most
+pub record Lists (places : List ℕ) (most : ℕ) : Type 0 where
+  pub numbers : length places ≡ 68
+  pub few : most ≤ 34
+
+-- of an accepted payload, for line i of 1 to most; else 0
+abbrev pub linePlace : ℕ → List ℕ → ℕ → Verdict → ℕ
+linePlace most places i (refused r) = 0
+linePlace most places i (accepted n k) = cond (within 1 most i) (listedPlace places i) 0
+
+-- so of a layout's payload and verdict; of the lines that the layout may have, an absent one lies at the end and has no bytes
 abbrev pub packedLine : Layout → Bytes → ℕ → Verdict → ℕ
-packedLine L p i (refused r) = 0
-packedLine L p i (accepted n k) = cond (within 1 (L .most-lines) i) (listedPlace (placesOf L (billOf p)) i) 0
+packedLine L p i v = linePlace (L .most-lines) (placesOf L (billOf p)) i v
 
 -- of a payload and a list, the number r and the list afterwards
 pub record IsPackedRead (L : Layout) (p : Bytes) (list : List ℕ) (r : ℕ) (after : List ℕ) : Type 0 where

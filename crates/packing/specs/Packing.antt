@@ -1,5 +1,5 @@
 -- Answers as one number, for C: how every call packs a refusal, a place, a count of lines. Assumes nothing.
-use Prim.Native.Nat.{ℕ, _+_, _*_}
+use Prim.Native.Nat.{ℕ, _+_, _*_, _<_}
 use mathlib.Core.Bool.{Bool, true, false}
 use Rattle.sieve.specs.declared.Break.{Break}
 use Rattle.sieve.specs.declared.Break.the-variants.{Lf, CrLf}
@@ -26,6 +26,11 @@ mark CrLf = 100
 abbrev pub packedCount : ℕ → Break → ℕ
 packedCount n k = n + mark k
 
+-- a verdict that packs: its line count is below 100, or the line that it names below 1000
+abbrev pub Packs : Verdict → Type 0
+Packs (accepted n k) = n < 100
+Packs (refused r) = r .line < shift
+
 -- a verdict without its kind of break
 abbrev pub packed : Verdict → ℕ
 packed (accepted n k) = n
@@ -35,6 +40,11 @@ packed (refused r) = packedRefusal r
 abbrev pub packedVerdict : Verdict → ℕ
 packedVerdict (accepted n k) = packedCount n k
 packedVerdict (refused r) = packedRefusal r
+
+-- a laying that packs: its bytes are counted by 32 bits, or the line that it names is below 1000
+abbrev pub PacksLaying : Laying → Type 0
+PacksLaying (laid n) = n < 4294967296
+PacksLaying (not-laid r) = r .line < shift
 
 -- how many bytes were laid, or why none
 abbrev pub packedLaying : Laying → ℕ

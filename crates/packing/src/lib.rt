@@ -1,20 +1,23 @@
 // Answers as one number, for C. Every call packs in this one way.
+use sieve::Answer;
 use sieve::Break;
 use sieve::Fault;
+use sieve::Written;
 use sieve::line_of;
 use sieve::number_of;
 ghost use mathlib.Core.Path.{_≡_};
 ghost use Prim.Native.Nat.{_≤_, _<_};
 ghost use lib.ListN.{length};
-ghost use Rattle.sieve.specs.Paper.{paperFault};
+ghost use Rattle.sieve.specs.Paper.{paperFault, paper, paperWritten};
 ghost use Rattle.packing.specs.Packing.{shift, packedRefusal, packedPlace, mark, packedCount, breakFor};
-ghost use Rattle.packing.specs.Calls.{listedPlace};
+ghost use Rattle.packing.specs.Packing.{Packs, packed, packedVerdict, PacksLaying, packedLaying};
+ghost use Rattle.packing.specs.Calls.{listedPlace, Lists, linePlace};
 
 // What the number of a refusal, or the start of a place, is multiplied by.
 const SHIFT: u32 = 1000;
 
 // 1000 times the refusal plus the line.
-pub fn packed_refusal(fault: Fault) -> u32
+fn packed_refusal(fault: Fault) -> u32
     requires { ⌜ paperFault fault .line < shift ⌝ }
     ensures { λ r. ⌜ r ≡ packedRefusal (paperFault fault) ⌝ }
 {
@@ -29,7 +32,7 @@ pub fn packed_place(start: u16, bytes: u16) -> u32
 }
 
 // 1000 times the start plus the length that a list of places gives for a line.
-pub fn listed_place(places: &[u16], line: usize) -> u32
+fn listed_place(places: &[u16], line: usize) -> u32
     requires { ⌜ (length (now places) ≡ 68) × (1 ≤ line) × (line ≤ 34) ⌝ }
     ensures { λ r. ⌜ r ≡ listedPlace (now (places .entry)) line ⌝ }
 {
@@ -48,7 +51,7 @@ fn mark(brk: Break) -> u8
 }
 
 // A count of lines, plus 100 if their breaks are CR LF.
-pub fn packed_count(lines: usize, brk: Break) -> u32
+fn packed_count(lines: usize, brk: Break) -> u32
     requires { ⌜ lines < 100 ⌝ }
     ensures { λ r. ⌜ r ≡ packedCount lines brk ⌝ }
 {
@@ -60,4 +63,55 @@ pub fn break_for(crlf: bool) -> Break
     ensures { λ r. ⌜ r ≡ breakFor crlf ⌝ }
 {
     if crlf { Break::CrLf } else { Break::Lf }
+}
+
+// A verdict without its kind of break: the line count, or the refusal.
+pub fn packed_answer(answer: Answer) -> u32
+    requires { ⌜ Packs (paper answer) ⌝ }
+    ensures { λ r. ⌜ r ≡ packed (paper answer) ⌝ }
+{
+    match answer {
+        Answer::Accepted(n, _) => n as u32,
+        Answer::Refused(fault) => packed_refusal(fault),
+    }
+}
+
+// A verdict with its kind of break.
+pub fn packed_verdict(answer: Answer) -> u32
+    requires { ⌜ Packs (paper answer) ⌝ }
+    ensures { λ r. ⌜ r ≡ packedVerdict (paper answer) ⌝ }
+{
+    match answer {
+        Answer::Accepted(n, brk) => packed_count(n, brk),
+        Answer::Refused(fault) => packed_refusal(fault),
+    }
+}
+
+// How many bytes were laid, or the refusal.
+pub fn packed_laying(written: Written) -> u32
+    requires { ⌜ PacksLaying (paperWritten written) ⌝ }
+    ensures { λ r. ⌜ r ≡ packedLaying (paperWritten written) ⌝ }
+{
+    match written {
+        Written::Length(n) => n as u32,
+        Written::Refused(fault) => packed_refusal(fault),
+    }
+}
+
+// The place of a line of an accepted payload, counted from 1, of the most that its layout has; else 0.
+pub fn packed_line(answer: Answer, places: &[u16], line: u32, most: usize) -> u32
+    requires { ⌜ Lists (now places) most ⌝ }
+    ensures { λ r. ⌜ r ≡ linePlace most (now (places .entry)) line (paper answer) ⌝ }
+{
+    match answer {
+        Answer::Refused(_) => 0,
+        Answer::Accepted(_, _) => {
+            let n = line as usize;
+            if (1 <= n) & (n <= most) {
+                listed_place(places, n)
+            } else {
+                0
+            }
+        }
+    }
 }

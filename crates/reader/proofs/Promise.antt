@@ -2,7 +2,7 @@
 use Prim.Native.Nat.{ℕ, _≤_, _<_}
 use native.Mathlib.Omega.{arith}
 use mathlib.Core.List.{List}
-use mathlib.Core.Path.{_≡_, sym, ap, _∙_}
+use mathlib.Core.Path.{_≡_}
 use lib.Dec.{lit≤}
 use lib.ListN.{length, drop}
 use Rattle.sieve.specs.declared.Answer.{Answer}
@@ -18,8 +18,6 @@ use Rattle.sieve.specs.Keeps.{Keeps}
 use Rattle.sieve.specs.Demand.{Is, Earliest}
 use Rattle.sieve.specs.Pointing.{BeginsNeither}
 use Rattle.sieve.specs.Writing.{handed}
-use Rattle.sieve.proofs.PaperLosesNothing.{one-answer}
-use Rattle.sieve.proofs.ReaderPromises.{accepted-no-room, accepted-reads, refused-reads, bill-reads}
 use Rattle.swiss.specs.Swiss.{swiss}
 use Rattle.swiss.proofs.Numbers.{never-14-or-15}
 use Rattle.sieve.proofs.Latin.{lawful}
@@ -35,28 +33,22 @@ one-reading p list q r a b = reading.one-reading
 pub accepted-is-bill : (p : Bytes) (list after : List ℕ) (n : ℕ) (k : Break) → 68 ≤ length list → IsRead swiss p list (Accepted n k) after
     → (b : Bill) × Is swiss p n k b × (handed p after n ≡ b .lines) × (drop 68 after ≡ drop 68 list)
 unfolding swiss
-accepted-is-bill p list after n k room h =
-    let r = accepted-reads swiss (λ ls. lawful) (lit≤ tt) p list room n k (sym (h .answer)) in
-    (r .bill, r .is, rw (h .lent) (r .cut-out), rw (h .lent) (r .rest))
+accepted-is-bill p list after n k = reading.accepted-bill swiss (λ ls. lawful) (lit≤ tt)
 
 -- every bill that keeps the rules is accepted, with its line count and its break
 pub bill-is-accepted : (b : Bill) (list after : List ℕ) (r : Answer) → 68 ≤ length list → Keeps swiss b → IsRead swiss (written b) list r after → r ≡ Accepted (length (b .lines)) (b .break)
 unfolding swiss
-bill-is-accepted b list after r room h k = one-answer r _ (k .answer ∙ bill-reads swiss (λ ls. lawful) (lit≤ tt) b list room h)
+bill-is-accepted b list after r = reading.bill-accepted swiss (λ ls. lawful) (lit≤ tt)
 
 -- any other payload is refused under the earliest rule that it breaks, and no number of the list changes
 pub refused-is-earliest : (p : Bytes) (list after : List ℕ) (f : Fault) → 68 ≤ length list → IsRead swiss p list (Refused f) after → Earliest swiss p (paperFault f) × (after ≡ list)
 unfolding swiss
-refused-is-earliest p list after f room h =
-    let (e, l) = refused-reads swiss (λ ls. lawful) (lit≤ tt) p list room (paperFault f) (sym (h .answer)) in
-    (e, h .lent ∙ l)
+refused-is-earliest p list after f = reading.refused-earliest swiss (λ ls. lawful) (lit≤ tt)
 
 -- too little room is told where nothing else is wrong, and no number of the list changes
 pub too-little-room : (p : Bytes) (list after : List ℕ) (n : ℕ) (k : Break) (r : Answer) → length list < 68 → verdict swiss p ≡ accepted n k → IsRead swiss p list r after → (r ≡ Refused NoRoom) × (after ≡ list)
 unfolding swiss
-too-little-room p list after n k r short v h =
-    let e = accepted-no-room swiss p list n k v short in
-    (one-answer r _ (h .answer ∙ ap (λ d. d .answer) e), h .lent ∙ ap (λ d. d .lent) e)
+too-little-room p list after n k r = reading.short-told
 
 -- and nowhere else
 pub room-alone : (p : Bytes) (list after : List ℕ) → IsRead swiss p list (Refused NoRoom) after → (length list < 68) × ((n : ℕ) × ((k : Break) × (verdict swiss p ≡ accepted n k)))

@@ -8,11 +8,12 @@ use mathlib.Core.List.{[], _∷_, _++_, append-nil}
 use mathlib.Core.Path.{_≡_, refl, ap, _∙_}
 use lib.Dec.{leb}
 use lib.ListN.{length, take, drop, getD, set, length-set, length-drop, drop-of-length-le}
-use lib.Seq.{take-length, take-all, drop-drop}
+use lib.Seq.{take-length, drop-drop}
 use borrow.Author.Tests.{le-leb, lt-leb, leb-true}
 use borrow.Rule.Slice.PartMut.{midOf, putMid}
 use Rattle.sieve.specs.Bytes.{Bytes}
 use Rattle.runs.specs.Laid.{fitting, overFitting}
+use Rattle.runs.proofs.Parts.{left, rest}
 
 -- one more is laid
 pub store : (d l : Bytes) (i : ℕ) → i < length l → i < length d → set (take i l ++ drop i d) i (getD l i 0) ≡ take (suc i) l ++ drop (suc i) d
@@ -66,14 +67,11 @@ module _ (d l : Bytes) where
 
 -- the tail that is lent is what is left, and comes back behind what lies before it
 module _ (n : ℕ) (d : Bytes) where
-  left : length (drop n d) ≤ length d - n
-  left = simp length-drop (omega arith)
-
   pub lent : midOf n (length d - n) d ≡ drop n d
-  lent = take-all (length d - n) (drop n d) left
+  lent = rest n d
 
   pub back : (t : Bytes) → putMid n (length d - n) d t ≡ take n d ++ t
-  back t = rw (drop-of-length-le (drop n d) left, append-nil)
+  back t = rw (drop-of-length-le (drop n d) (left n d), append-nil)
 
   -- bytes that fit in the tail are laid behind the first n, and what lies behind them stays
   module _ (l : Bytes) (fits : n + length l ≤ length d) where

@@ -9,6 +9,7 @@ use Rattle.sieve.specs.declared.Break.{Break}
 use Rattle.sieve.specs.Bytes.{Bytes}
 use Rattle.sieve.specs.Lines.{Next, breakBytes, gluedAfter, cut, linesOf, breaksOf}
 use Rattle.sieve.specs.Places.{Placed, placed}
+use Rattle.sieve.specs.Rules.{line}
 use Rattle.sieve.proofs.Cutting.{glued-cut}
 use Rattle.sieve.proofs.Placing.{part-here}
 use Rattle.text.specs.declared.LineAt.{LineAt}
@@ -39,6 +40,18 @@ lie (n ∷ ns) before l at (suc i) h s e =
 pub line-lies : (s : Bytes) (n : ℕ) → let l = lineOf s n in take (length (l .text)) (drop (l .start) s) ≡ l .text
 unfolding lineOf linesIn
 line-lies s n = lie (cut s .rest) [] (cut s .first) 0 (n - 1) refl s (glued-cut s)
+
+-- the text of line n, as it lies, is line n
+texts : (s : Bytes) (at : ℕ) (l : Bytes) (ns : List Next) (i : ℕ) → getD (linesFrom at l ns) i (absent s) .text ≡ getD (l ∷ map (λ n. n .line) ns) i []
+unfolding linesFrom
+texts s at l [] zero = refl
+texts s at l [] (suc i) = refl
+texts s at l (n ∷ ns) zero = refl
+texts s at l (n ∷ ns) (suc i) = texts s _ (n .line) ns i
+
+pub line-text : (s : Bytes) (n : ℕ) → lineOf s n .text ≡ line n (linesOf (cut s))
+unfolding lineOf linesIn
+line-text s n = texts s 0 (cut s .first) (cut s .rest) (n - 1)
 
 as-placed : (k : Break) (ns : List Next) (at : ℕ) (l : Bytes) → ((j : Break) → List·Memᴰ j (map (λ n. n .break) ns) → j ≡ k) → linesFrom at l ns ≡ placed at k (l ∷ map (λ n. n .line) ns)
 unfolding linesFrom placed

@@ -2,14 +2,14 @@
 use Prim.Native.Nat.{ℕ, zero, suc, _+_, _-_, _≤_, _<_}
 use native.Mathlib.Nat.{zero-add}
 use native.Mathlib.Omega.{arith}
-use mathlib.Core.Bool.{Bool, true, false, false≢true, _&&_, and-assoc}
+use mathlib.Core.Bool.{Bool, true, false, _&&_, and-assoc}
 use mathlib.Core.List.{[], _∷_}
 use mathlib.Core.Logic.{_≢_}
 use mathlib.Core.Path.{_≡_, refl, sym, ap, _∙_}
 use lib.ListN.{length, getD, take, drop, length-take, length-drop, drop-of-length-le}
-use lib.Seq.{take-all, drop-drop, length-take-le}
-use lib.Dec.{ltb}
-use borrow.Author.Tests.{ltb-true, ltb-false}
+use lib.Seq.{drop-drop, length-take-le}
+use lib.Dec.{eqb, ltb, eqb·zero-suc, eqb·suc-suc}
+use borrow.Author.Tests.{eqb-true, ltb-true, ltb-false}
 use Rattle.sieve.specs.Bytes.{Bytes, every}
 use Rattle.text.specs.Runs.{run}
 use Rattle.sieve.proofs.Bounds.{case-at-most}
@@ -43,14 +43,15 @@ module _ (f : ℕ → Bool) where
   few [] = omega arith
   few (x ∷ t) = omega (arith, case-at-most (suc (length t)) (f x) {x = suc (run f t)} {y = 0} (λ e. omega (arith, few t)) (omega arith))
 
-  all : (t : Bytes) → every f t ≡ true → run f t ≡ length t
+  -- the run is as long as the bytes exactly if every byte passes
+  pub all-run : (t : Bytes) → eqb (run f t) (length t) ≡ every f t
   unfolding run
-  all [] e = refl
-  all (x ∷ t) e = go (f x) refl (all t)
+  all-run [] = refl
+  all-run (x ∷ t) = go (f x) refl (all-run t)
     where
-      go : (b : Bool) → f x ≡ b → (every f t ≡ true → run f t ≡ length t) → run f (x ∷ t) ≡ suc (length t)
-      go true q more = rw q (ap suc (more (rw q at e)))
-      go false q more = absurd (false≢true (rw q at e))
+      go : (b : Bool) → f x ≡ b → eqb (run f t) (length t) ≡ every f t → eqb (run f (x ∷ t)) (suc (length t)) ≡ every f (x ∷ t)
+      go true q more = rw q (eqb·suc-suc (run f t) (length t) ∙ more)
+      go false q more = rw q (eqb·zero-suc (length t))
 
   module _ (s : Bytes) (at : ℕ) where
     -- byte by byte
@@ -78,10 +79,6 @@ module _ (f : ℕ → Bool) where
         go true false p q = absurd (omega (arith, stopped (ltb-true at (length s) p) q))
         go false d p q = absurd (omega (arith, ended (ltb-false at (length s) p)))
 
-    -- what is left, as a part
-    pub rest-run : run f (take (length s - at) (drop at s)) ≡ run f (drop at s)
-    rest-run = rw (take-all (length s - at) (drop at s) (omega (arith, length-drop at s)))
-
   -- part by part
   module _ (s : Bytes) (at to : ℕ) where
     abbrev part : Bytes
@@ -101,4 +98,4 @@ module _ (f : ℕ → Bool) where
           omega arith
 
       pub all-passed : every f part ≡ true → at + run f (drop at s) ≡ to + run f (drop to s)
-      all-passed e = part-passed (all part e ∙ length-take-le (to - at) (drop at s) (omega (arith, length-drop at s)))
+      all-passed e = part-passed (eqb-true _ _ (all-run part ∙ e) ∙ length-take-le (to - at) (drop at s) (omega (arith, length-drop at s)))

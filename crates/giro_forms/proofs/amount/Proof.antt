@@ -1,14 +1,14 @@
 -- `giro_forms::amount` meets its contract: the currency and the value are parts of the line. Assumes nothing.
-use Prim.Native.Nat.{_-_, _<_}
+use Prim.Native.Nat.{_<_}
 use native.Mathlib.Omega.{arith}
 use mathlib.Core.Bool.{false, and-false}
 use mathlib.Core.List.{[], _∷_}
 use mathlib.Core.Path.{_≡_, refl}
 use lib.Dec.{eqb}
-use lib.ListN.{length, take, drop, length-drop}
-use lib.Seq.{take-all}
+use lib.ListN.{length, take}
 use Rattle.sieve.specs.Bytes.{Bytes, ascii, same}
 use Rattle.girocode.specs.Limits.{euro}
+use Rattle.runs.proofs.Parts.{rest}
 use borrow.Author.Needs.{needs}
 use Rattle.giro_forms.proofs.amount.Statement.{statement}
 use Rattle.giro_forms.proofs.amount.Tie as tie
@@ -66,7 +66,7 @@ returns-2 c =
     let at-same = c .before .before .before .before .before in
     let at-start = at-same .before .before .before .before .before .before in
     let s = at-start .args .s .now in
-    rw (at-same .same .ensures, c .before .before .before .before .whole .ensures, c .before .before .before .parted .ensures, c .before .before .parted2 .ensures, c .same2 .ensures, take-all (length s - 3) (drop 3 s) (simp length-drop (omega arith)))
+    rw (at-same .same .ensures, c .before .before .before .before .whole .ensures, c .before .before .before .parted .ensures, c .before .before .parted2 .ensures, c .same2 .ensures, rest 3 s)
 
 pub amount-spec : {M : Type 1} → statement M
 amount-spec =

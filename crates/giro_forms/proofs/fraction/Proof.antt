@@ -1,13 +1,13 @@
 -- `giro_forms::fraction` meets its contract: the point, and the digits behind it. Nothing is no fraction. Assumes nothing.
-use Prim.Native.Nat.{_-_, _<_}
+use Prim.Native.Nat.{_<_}
 use native.Mathlib.Omega.{arith}
 use mathlib.Core.Bool.{false}
 use mathlib.Core.List.{[], _∷_}
 use mathlib.Core.Path.{_≡_, refl}
-use lib.ListN.{length, drop, length-drop}
-use lib.Seq.{take-all}
+use lib.ListN.{length}
 use Rattle.sieve.specs.Bytes.{Bytes}
 use Rattle.girocode.specs.Forms.{fraction}
+use Rattle.runs.proofs.Parts.{rest}
 use borrow.Author.Needs.{needs}
 use Rattle.giro_forms.proofs.fraction.Statement.{statement}
 use Rattle.giro_forms.proofs.fraction.Tie as tie
@@ -44,7 +44,7 @@ returns-2 : tie.Need-returns-2
 returns-2 c =
     let at-start = c .before .before .before .before .before .before in
     let s = at-start .args .s .now in
-    rw (c .before .every .ensures, take-all (length s - 1) (drop 1 s) (simp length-drop (omega arith)))
+    rw (c .before .every .ensures, rest 1 s)
 
 pub fraction-spec : {M : Type 1} → statement M
 fraction-spec =

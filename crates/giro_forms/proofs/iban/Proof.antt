@@ -1,8 +1,5 @@
 -- `giro_forms::iban` meets its contract: country, check pair and the rest are parts of the line. Assumes nothing.
-use Prim.Native.Nat.{_-_}
-use native.Mathlib.Omega.{arith}
-use lib.ListN.{length, drop, length-drop}
-use lib.Seq.{take-all}
+use Rattle.runs.proofs.Parts.{rest}
 use borrow.Author.Tests.{le-leb, lt-leb}
 use borrow.Author.Needs.{needs}
 use Rattle.giro_forms.proofs.iban.Statement.{statement}
@@ -52,7 +49,7 @@ returns-2 c =
     let at-if-1 = c .before .before .before .before .before .before in
     let at-start = at-if-1 .before .before in
     let s = at-start .args .s .now in
-    rw (le-leb 5 _ (at-if-1 .if1 .left), c .before .before .before .before .every .ensures, c .before .before .every2 .ensures, c .every3 .ensures, take-all (length s - 4) (drop 4 s) (simp length-drop (omega arith)))
+    rw (le-leb 5 _ (at-if-1 .if1 .left), c .before .before .before .before .every .ensures, c .before .before .every2 .ensures, c .every3 .ensures, rest 4 s)
 
 pub iban-spec : {M : Type 1} → statement M
 iban-spec =

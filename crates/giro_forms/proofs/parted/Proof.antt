@@ -3,8 +3,8 @@ use Prim.Native.Nat.{_-_}
 use native.Mathlib.Nat.{sub-zero}
 use native.Mathlib.Omega.{arith}
 use mathlib.Core.Path.{_≡_}
-use lib.ListN.{length, drop, length-drop}
-use lib.Seq.{take-all}
+use lib.ListN.{length}
+use Rattle.runs.proofs.Parts.{rest}
 use borrow.Author.Needs.{needs}
 use Rattle.giro_forms.proofs.parted.Statement.{statement}
 use Rattle.giro_forms.proofs.parted.Tie as tie
@@ -47,7 +47,7 @@ returns-2 c =
     let at-start = c .before .before .before .before .before .before in
     let s = at-start .args .s .now in
     let point = length s - at-start .args .n in
-    rw (c .before .before .whole .ensures, c .fraction .ensures, sub-zero point, take-all (length s - point) (drop point s) (simp length-drop (omega arith)))
+    rw (c .before .before .whole .ensures, c .fraction .ensures, sub-zero point, rest point s)
 
 pub parted-spec : {M : Type 1} → statement M
 parted-spec =

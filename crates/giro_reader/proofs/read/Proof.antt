@@ -1,15 +1,13 @@
 -- `giro_reader::read` meets its contract: what the verdict says of the payload leaves one way for the reading to end. Assumes nothing.
 use native.Mathlib.Omega.{arith}
-use mathlib.Core.Path.{refl, sym, ap, _∙_}
+use mathlib.Core.Path.{refl, ap, _∙_}
 use lib.ListN.{length}
 use Rattle.sieve.specs.Lines.{billOf}
-use Rattle.sieve.specs.Paper.{paper}
 use Rattle.sieve.proofs.Placing.{list-length}
-use Rattle.sieve.proofs.ReaderPromises.{refused-unlisted, accepted-no-room, accepted-listed}
 use Rattle.girocode.specs.Girocode.{girocode}
 use Rattle.runs.proofs.Lays.{laid-in}
 use Rattle.whole.proofs.Judging.{judged-length}
-use Rattle.whole.proofs.Reading.{ends-so}
+use Rattle.whole.proofs.Reading.{ends-refused, ends-short, ends-listed}
 use Rattle.giro_judge.proofs.Places.{all-shown}
 use borrow.Author.Needs.{needs}
 use Rattle.giro_reader.proofs.read.Statement.{statement}
@@ -26,9 +24,7 @@ enum-known-n c = search needs
 
 returns : tie.Need-returns
 unfolding girocode
-returns c =
-    let verdict-is = sym (c .before .before .before .before .judge .ensures .answer) ∙ ap paper (c .before .before .n .given .1) in
-    ends-so (accepted-no-room girocode _ _ _ _ verdict-is (c .if1 .taken)) refl refl
+returns c = ends-short (c .before .before .before .before .judge .ensures) (c .before .before .n .given .1) (c .if1 .taken) refl
 
 sub-fill : tie.Need-sub-fill
 sub-fill c = search needs
@@ -43,9 +39,7 @@ fill-requires : tie.Need-fill-requires
 fill-requires c κs = search needs
 
 returns-2 : tie.Need-returns-2
-returns-2 c =
-    let verdict-is = sym (c .before .before .before .judge .ensures .answer) ∙ ap paper (c .before .f .given .1) in
-    ends-so (refused-unlisted girocode _ _ _ verdict-is) refl refl
+returns-2 c = ends-refused (c .before .before .before .judge .ensures) (c .before .f .given .1) refl
 
 same-length : tie.Need-same-length
 same-length c = search needs
@@ -59,9 +53,8 @@ returns-3 c =
     let bill = billOf (at-start .args .payload .now) in
     let shown = all-shown (rw (at-room .before .before .n .given .1) at judged) in
     let size = ap length shown ∙ list-length girocode bill in
-    let verdict-is = sym (judged .answer) ∙ ap paper (at-room .before .before .n .given .1) in
     let laid = c .before .before .fill .ensures .1 ∙ laid-in _ _ (omega (arith, size, at-room .if1 .left)) in
-    ends-so (accepted-listed girocode _ _ _ _ verdict-is (at-room .if1 .left)) refl (rw (size, shown) at laid)
+    ends-listed judged (at-room .before .before .n .given .1) (at-room .if1 .left) (rw (size, shown) at laid)
 
 pub read-spec : {M : Type 1} → statement M
 read-spec =

@@ -4,7 +4,7 @@ use native.Mathlib.Omega.{arith}
 use Prim.Native.Nat.{_-_}
 use lib.ListN.{length}
 use lib.Seq.{length-take-le}
-use Rattle.swiss_forms.proofs.Parts.{rest}
+use Rattle.runs.proofs.Parts.{rest}
 use borrow.Author.Tests.{le-leb, lt-leb}
 use borrow.Author.Needs.{needs}
 use Rattle.swiss_forms.proofs.amount.Statement.{statement}

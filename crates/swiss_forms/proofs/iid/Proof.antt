@@ -5,7 +5,7 @@ use native.Mathlib.Omega.{arith}
 use mathlib.Core.Path.{sym, ap, _∙_}
 use lib.ListN.{length, take, drop, length-take, length-drop, drop-of-length-le}
 use lib.Seq.{take-all}
-use Rattle.swiss_forms.proofs.Parts.{rest}
+use Rattle.runs.proofs.Parts.{rest}
 use borrow.Author.Needs.{needs}
 use Rattle.swiss_forms.proofs.iid.Statement.{statement}
 use Rattle.swiss_forms.proofs.iid.Tie as tie

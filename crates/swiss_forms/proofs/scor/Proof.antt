@@ -1,5 +1,5 @@
 -- `swiss_forms::scor` meets its contract: RF, the check pair and the rest are parts of the line. Assumes nothing.
-use Rattle.swiss_forms.proofs.Parts.{rest}
+use Rattle.runs.proofs.Parts.{rest}
 use borrow.Author.Tests.{le-leb, lt-leb}
 use borrow.Author.Needs.{needs}
 use Rattle.swiss_forms.proofs.scor.Statement.{statement}

@@ -1,13 +1,14 @@
 -- `text::plain_end` meets its contract. Both loops keep that the run from `from` on ends where one from `at` on would. Assumes nothing.
 use Prim.Native.Nat.{_+_, _-_, _≤_}
 use native.Mathlib.Omega.{arith}
-use mathlib.Core.Path.{_≡_, sym, _∙_}
+use mathlib.Core.Path.{_≡_, sym, ap, _∙_}
 use borrow.Author.Needs.{needs}
 use lib.ListN.{length, drop}
 use Rattle.sieve.specs.Bytes.{Bytes}
 use Rattle.sieve.specs.Latin.{inOne}
+use Rattle.runs.proofs.Parts.{rest}
 use Rattle.text.specs.Runs.{run}
-use Rattle.text.proofs.Runs.{ended, rest-run, part-few, part-passed, all-passed, part-stopped}
+use Rattle.text.proofs.Runs.{ended, part-few, part-passed, all-passed, part-stopped}
 use Rattle.text.proofs.plain_end.Statement.{statement}
 use Rattle.text.proofs.plain_end.Tie as tie
 
@@ -135,7 +136,7 @@ returns-3 : tie.Need-returns-3 Inv-loop2 μ-loop2 Inv-loop μ-loop
 returns-3 c =
     let l = c .before .before .before in
     let s = text l in
-    omega (arith, l .loop .inv .1, c .plain-run2 .ensures, rest-run inOne s (l .loop .at))
+    omega (arith, l .loop .inv .1, c .plain-run2 .ensures, ap (run inOne) (rest (l .loop .at) s))
 
 pub plain-end-spec : {M : Type 1} → statement M
 plain-end-spec =
