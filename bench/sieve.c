@@ -230,6 +230,8 @@ static inline uint32_t broken_with_97(const uint8_t *text, const uint8_t *end, u
         number = remainder_of(rest, end);
     }
     unsigned pair = 10u * text[2] + text[3] - 11 * '0';
+    if (pair - 2 > 96) /* 00, 01 and 99, as ISO 7064 yields 02 to 98 */
+        return BAD_CHECK_DIGITS;
     return (number % 97 * 1000000 + letters * 100 + pair) % 97 == 1 ? 0 : BAD_CHECK_DIGITS;
 }
 

@@ -47,6 +47,12 @@ def remainder_97(text):
     return int('0' + ''.join(decimal_of(byte) for byte in moved)) % 97
 
 
+def pair_holds(text):
+    """Whether a text of four characters or more has a pair of 02 to 98, and leaves the remainder 1."""
+    number = int('0' + ''.join(decimal_of(byte) for byte in text[2:4]))
+    return len(text) >= 4 and 2 <= number <= 98 and remainder_97(text) == 1
+
+
 def check_digit(run):
     """The byte that a run of digits asks for. A byte above the digits counts on from 9, as `:` for
     10; one below them counts as 0."""
@@ -63,9 +69,8 @@ def last_digit_holds(text):
 
 def answer(text):
     """The line that the program has to write for a text."""
-    remainder = remainder_97(text)
     return b'%d %d %c %d\n' % (
-        remainder, remainder == 1, check_digit(text), last_digit_holds(text))
+        remainder_97(text), pair_holds(text), check_digit(text), last_digit_holds(text))
 
 
 # The texts.
@@ -83,6 +88,17 @@ QR_REFERENCES = [
     b'123456789098765432101234567', b'123456789098765432101234569',
     b'000008207791225857421286694', b'000000000000000000000000000',
 ]
+
+
+# Where 97, 98 or 02 is due, 00, 01 or 99 leaves the remainder 1 too.
+PAIRS = [
+    b'CH9700791123000889086', b'CH0000791123000889086', b'CH9800791123000889068',
+    b'CH0100791123000889068', b'CH0200791123000889050', b'CH9900791123000889050',
+    b'RF9772', b'RF0072', b'RF9854', b'RF0154', b'RF0236', b'RF9936',
+]
+# The remainder 1 without a pair; and with pairs that are not digits, which count by what they
+# stand for: 10, 2, 1, 100.
+NO_PAIRS = [b'1', b'98', b'001', b'RF0A96', b'RF/291', b'RF/154', b'RFA031']
 
 
 def with_check_pair(letters, rest):
@@ -160,6 +176,8 @@ def texts():
     yield from creditor_references()
     yield from qr_references()
     yield from long_texts()
+    yield from PAIRS
+    yield from NO_PAIRS
 
 
 # The command.
@@ -178,7 +196,7 @@ def checks(made):
     for text, _ in made:
         name = text.decode('latin-1')
         if is_iban(name) or is_creditor_reference(name):
-            yield f'{name} by the reference', mod_97_10_holds(name), remainder_97(text) == 1
+            yield f'{name} by the reference', mod_97_10_holds(name), pair_holds(text)
         if re.fullmatch('[0-9]{27}', name):
             yield f'{name} by the reference', qr_check_digit_holds(name), last_digit_holds(text)
 

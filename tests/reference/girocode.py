@@ -100,9 +100,11 @@ def is_amount(text):
     return (euros, cents) != (0, 0) and text == 'EUR' + shortest
 
 
-def remainder(iban):
-    """By 97, of the account with its first four characters moved to its end, letters as 10 to 35."""
-    return int(''.join(str(int(sign, 36)) for sign in iban[4:] + iban[:4])) % 97
+def pair_is_right(iban):
+    """The pair is 02 to 98, and the account with its first four characters moved to its end, letters
+    as 10 to 35, leaves 1 by 97."""
+    number = int(''.join(str(int(sign, 36)) for sign in iban[4:] + iban[:4]))
+    return 2 <= int(iban[2:4]) <= 98 and number % 97 == 1
 
 
 def line_refusal(number, lines):
@@ -125,7 +127,7 @@ def line_refusal(number, lines):
         return 10
     if number in FORMS and not re.fullmatch(FORMS[number], text):
         return 10
-    if number == 7 and remainder(text) != 1:
+    if number == 7 and not pair_is_right(text):
         return 11
     return None
 

@@ -32,8 +32,8 @@ def whole_lines(head, more):
 
 
 def is_account(text):
-    """Of its form (so not empty), and with the right check digits."""
-    if not IBAN.fullmatch(text):
+    """Of its form (so not empty), and with the right check digits, of which 00, 01 and 99 are none."""
+    if not IBAN.fullmatch(text) or text[2:4] in (b'00', b'01', b'99'):
         return False
     number = 0
     for character in text[4:] + text[:4]:

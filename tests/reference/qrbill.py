@@ -204,11 +204,12 @@ def breaks_rule_11(number, lines):
 
 
 def mod_97_10_holds(text):
-    """The check of ISO 7064 MOD 97-10, for an IBAN and a creditor reference alike."""
+    """The check of ISO 7064 MOD 97-10, for an IBAN and a creditor reference alike: a pair of 02 to
+    98, and the remainder 1."""
     moved = text[4:] + text[:4]
     # In base 36 the letters are worth 10 to 35, and a small letter as much as its capital.
     decimal = ''.join(str(int(character, 36)) for character in moved)
-    return int(decimal) % 97 == 1
+    return text[2:4] not in ('00', '01', '99') and int(decimal) % 97 == 1
 
 
 NEXT_CARRY = (0, 9, 4, 6, 8, 2, 7, 1, 3, 5)

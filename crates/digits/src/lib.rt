@@ -4,10 +4,10 @@ mod table;
 use crate::table::STEP;
 ghost use mathlib.Core.Bool.{true};
 ghost use mathlib.Core.Path.{_≡_};
-ghost use Prim.Native.Nat.{_+_, _-_, _*_, _%_, _^_, _<_};
+ghost use Prim.Native.Nat.{_+_, _-_, _*_, _%_, _^_, _≤_, _<_};
 ghost use lib.ListN.{length, take, getD};
 ghost use Rattle.sieve.specs.Letters.{digit};
-ghost use Rattle.sieve.specs.Mod97.{value, onto, number, remainder97, checks97};
+ghost use Rattle.sieve.specs.Mod97.{value, onto, number, remainder97, pair, checks97};
 ghost use Rattle.sieve.specs.Mod10.{nextCarry, checkDigit, checks10};
 ghost use Rattle.digits.specs.Steps.{remainders};
 
@@ -186,11 +186,24 @@ pub fn remainder97_by_table(s: &[u8]) -> u64
     run_by_two(&table, r, &s[0..4]) as u64
 }
 
-// Whether the two check digits of an IBAN or of a creditor reference are right.
+// The number of a text's pair of check digits, its third and fourth characters.
+fn pair_number(s: &[u8]) -> u64
+    requires { ⌜ 4 ≤ length (now s) ⌝ }
+    ensures { λ r. ⌜ r ≡ number 0 (pair (now (s .entry))) ⌝ }
+{
+    extended(value(s[2]), s[3])
+}
+
+// Whether the two check digits of an IBAN or of a creditor reference are right: 02 to 98, and the remainder is 1. With
+// 00, 01 or 99 it is 1 too, where 97, 98 or 02 is due.
 pub fn checks97(s: &[u8]) -> bool
     ensures { λ r. ⌜ r ≡ checks97 (now (s .entry)) ⌝ }
 {
-    remainder97_by_table(s) == 1
+    if s.len() < 4 {
+        return false;
+    }
+    let p = pair_number(s);
+    (2 <= p) & (p <= 98) & (remainder97_by_table(s) == 1)
 }
 
 // The decimal number that the first nine characters of a text stand for. They make a number below 100 ^ 9, which a u64

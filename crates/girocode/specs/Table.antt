@@ -186,6 +186,10 @@ table =
     -- 11: check digits
     ∷ bad 11 7 (put 7 "AT682011131032423629" G)
     ∷ bad 11 7 (put 7 "AT862011131032423628" G)
+    ∷ good (put 7 "AT972011131032423009" G)
+    ∷ bad 11 7 (put 7 "AT002011131032423009" G)
+    ∷ good (put 7 "AT022011131032423070" G)
+    ∷ bad 11 7 (put 7 "AT992011131032423070" G)
     -- 12: reference and text both filled
     ∷ good (put 10 "" (put 11 "457845789452" G))
     ∷ bad 12 11 (put 11 "Re 789452" G)

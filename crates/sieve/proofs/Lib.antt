@@ -1,5 +1,6 @@
 pub mod Bounds
 pub mod Decimals
+pub mod Pairs
 pub mod Heads
 pub mod Likeness
 pub mod Latin

@@ -2,6 +2,8 @@ pub mod Bytes
 pub mod Letters
 pub mod Decimal
 pub mod Mod97
+pub mod Only
+pub mod Pairs
 pub mod Mod10
 pub mod Lines
 pub mod Characters

@@ -466,7 +466,7 @@ second =
     ∷ bad 10 32 (put 32 " " (take 32 P))
     ∷ bad 10 32 (putBytes 32 (ascii "//" ++ umlaut) (take 32 P))
     ∷ bad 10 32 (put 32 "S1" P)
-    -- 11: the IBAN's pair: remainders 0 and 2, no four characters moved; a digit elsewhere; letters
+    -- 11: the IBAN's pair: remainders 0 and 2, no four characters moved; a digit elsewhere; letters; 99 for 02, 00 for 97
     ∷ bad 11 4 (put 4 "CH5700791123000889012" B)
     ∷ bad 11 4 (put 4 "CH5900791123000889012" B)
     ∷ bad 11 4 (put 4 "CH4800791123000889012" B)
@@ -476,7 +476,10 @@ second =
     ∷ bad 11 4 (put 4 "CH5800791123000889013" B)
     ∷ bad 11 4 (put 4 "CH5800791123000889021" B)
     ∷ bad 11 4 (put 4 "CH580079112300088901A" B)
-    ∷ good 31 (put 4 "CH9900791123000889050" B)
+    ∷ good 31 (put 4 "CH0200791123000889050" B)
+    ∷ bad 11 4 (put 4 "CH9900791123000889050" B)
+    ∷ good 31 (put 4 "CH9700791123000889086" B)
+    ∷ bad 11 4 (put 4 "CH0000791123000889086" B)
     -- the creditor reference's, where a small letter counts as its capital
     ∷ bad 11 29 (put 29 "RF17539007547034" B)
     ∷ bad 11 29 (put 29 "RF19539007547034" B)
@@ -489,9 +492,12 @@ second =
     ∷ good 31 (put 29 "RF29z" B)
     ∷ bad 11 29 (put 29 "RF26a" B)
     ∷ bad 11 29 (put 29 "RF28Z" B)
-    ∷ good 31 (put 29 "RF0072" B)
-    ∷ good 31 (put 29 "RF0154" B)
-    ∷ good 31 (put 29 "RF9936" B)
+    ∷ good 31 (put 29 "RF9772" B)
+    ∷ bad 11 29 (put 29 "RF0072" B)
+    ∷ good 31 (put 29 "RF9854" B)
+    ∷ bad 11 29 (put 29 "RF0154" B)
+    ∷ good 31 (put 29 "RF0236" B)
+    ∷ bad 11 29 (put 29 "RF9936" B)
     -- the QR reference's digit: each entry of the table, a carry of 0; the first, a middle and the last digit
     ∷ good 31 (put 29 "100000000000000000000000003" Q)
     ∷ good 31 (put 29 "000000000000000000000000011" Q)
