@@ -7,9 +7,9 @@
    What is lent. A payload is `length` bytes at `payload`, of any content and any length; a text, a
    list and a destination are lent in the same way, a list as so many 16-bit numbers, aligned as
    such. No pointer is null, not even where the length is 0.
-   What stays. The calls only read what is lent as const. The list of qrbill_places and the
-   destination of qrbill_write are written to only where the call succeeds, and then only in front:
-   what lies behind stays, to the last byte.
+   What stays. The calls only read what is lent as const. The list of qrbill_places and a
+   destination are written to only where the call succeeds, and then only in front: what lies behind
+   stays, to the last byte.
    Overlap. What is written to lies apart from all else that is lent to the same call. What is only
    read may overlap.
    Threads. Nothing is kept between calls, nor shared: any number of threads may call at once, also
@@ -85,6 +85,26 @@ uint32_t qrbill_glance(const uint8_t *payload, size_t length);
    15, line 0      there is less room than bytes to write */
 uint32_t qrbill_write(const uint8_t *text, size_t length, const uint16_t *list, size_t numbers,
                       uint8_t count, bool crlf, uint8_t *destination, size_t room);
+
+/* Numbers of our own, made from their parts, with the check digits that are due:
+
+   qrbill_make_qrr    from 26 digits, not all zero, the QR reference of 27
+   qrbill_make_scor   from 1 to 21 of A-Z a-z 0-9, which stay as they are, the creditor reference: RF,
+                      two check digits and these
+   qrbill_make_iban   from CH or LI, an IID of five digits and an account of twelve of 0-9 A-Z the
+                      IBAN of 21 characters
+
+   The answer is the length of the number, whose characters are the first of the destination. Else it
+   is 10000 where a part is not of that form, or 15000 where there is less room than that, and the
+   destination is as it was. */
+uint32_t qrbill_make_qrr(const uint8_t *digits, size_t length, uint8_t *destination, size_t room);
+
+uint32_t qrbill_make_scor(const uint8_t *reference, size_t length, uint8_t *destination,
+                          size_t room);
+
+uint32_t qrbill_make_iban(const uint8_t *country, size_t country_length, const uint8_t *iid,
+                          size_t iid_length, const uint8_t *account, size_t account_length,
+                          uint8_t *destination, size_t room);
 
 /* The Austrian girocode (EPC QR code): the same four calls for a payload that begins with BCD. It has
    7 to 12 lines and at most 331 bytes; a list has 24 numbers, start and length of each of 12 lines.

@@ -1,3 +1,4 @@
 pub mod Packs
+pub mod Made
 pub mod Read
 pub mod OneAnswer

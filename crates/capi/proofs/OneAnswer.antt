@@ -19,3 +19,12 @@ one-qrbill-places κs a x y v w h k = (h .number ∙ sym (k .number), ap (λ d. 
 -- the destination at exit too
 pub one-qrbill-write : OneAnswer fn.qrbill_write.ended fn.qrbill_write.Reads.Learnt
 one-qrbill-write κs a x y v w h k = (h .number ∙ sym (k .number), ap (λ d. (tt, (tt, (tt, (tt, (d, tt)))))) (h .lent ∙ sym (k .lent)))
+
+pub one-qrbill-make-qrr : OneAnswer fn.qrbill_make_qrr.ended fn.qrbill_make_qrr.Reads.Learnt
+one-qrbill-make-qrr κs a x y v w h k = (h .number ∙ sym (k .number), ap (λ d. (tt, (d, tt))) (h .lent ∙ sym (k .lent)))
+
+pub one-qrbill-make-scor : OneAnswer fn.qrbill_make_scor.ended fn.qrbill_make_scor.Reads.Learnt
+one-qrbill-make-scor κs a x y v w h k = (h .number ∙ sym (k .number), ap (λ d. (tt, (d, tt))) (h .lent ∙ sym (k .lent)))
+
+pub one-qrbill-make-iban : OneAnswer fn.qrbill_make_iban.ended fn.qrbill_make_iban.Reads.Learnt
+one-qrbill-make-iban κs a x y v w h k = (h .number ∙ sym (k .number), ap (λ d. (tt, (tt, (tt, (d, tt))))) (h .lent ∙ sym (k .lent)))

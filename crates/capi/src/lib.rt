@@ -1,7 +1,10 @@
 // Calls for C: the verdict on a payload and the place of a line as one number each, the list of places, the account at a
-// glance, and the writer.
+// glance, the writer, and numbers of our own.
 use glance::Account;
 use glance::glance;
+use numbers::make_iban;
+use numbers::make_qrr;
+use numbers::make_scor;
 use packing::break_for;
 use packing::packed_answer;
 use packing::packed_laying;
@@ -19,7 +22,8 @@ ghost use Rattle.swiss.specs.Swiss.{swiss};
 ghost use Rattle.packing.specs.Packing.{packed, breakFor};
 ghost use Rattle.packing.specs.Calls.{packedLine, IsPackedRead, IsPackedWritten};
 ghost use Rattle.glance.specs.Glance.{glance, accountAs};
-ghost use Rattle.capi.specs.Calls.{packedAccount};
+ghost use Rattle.numbers.specs.Made.{qrrPart, madeQrr, scorPart, madeScor, ibanParts, madeIban};
+ghost use Rattle.capi.specs.Calls.{packedAccount, IsPackedMade};
 
 // The line count of an accepted payload; of a refused one 1000 times the refusal plus the line.
 #[no_mangle]
@@ -74,4 +78,40 @@ pub extern "C" fn qrbill_write(
         (now (dest .exit)) ⌝ }
 {
     packed_laying(write(text, list, count as usize, break_for(crlf), dest))
+}
+
+// The length of a QR reference made of 26 digits, which lies in the destination's front; else 10000 or 15000, and the
+// destination is as it was. So it is with the two calls below.
+#[no_mangle]
+pub extern "C" fn qrbill_make_qrr(digits: &[u8], dest: &mut [u8]) -> u32
+    ensures { λ r.
+        ⌜ IsPackedMade (qrrPart (now (digits .entry))) (madeQrr (now (digits .entry))) (now (dest .entry)) r
+        (now (dest .exit)) ⌝ }
+{
+    packed_laying(make_qrr(digits, dest))
+}
+
+// A creditor reference.
+#[no_mangle]
+pub extern "C" fn qrbill_make_scor(reference: &[u8], dest: &mut [u8]) -> u32
+    ensures { λ r.
+        ⌜ IsPackedMade (scorPart (now (reference .entry))) (madeScor (now (reference .entry))) (now (dest .entry)) r
+        (now (dest .exit)) ⌝ }
+{
+    packed_laying(make_scor(reference, dest))
+}
+
+// An IBAN.
+#[no_mangle]
+pub extern "C" fn qrbill_make_iban(
+    country: &[u8],
+    iid: &[u8],
+    account: &[u8],
+    dest: &mut [u8],
+) -> u32
+    ensures { λ r.
+        ⌜ IsPackedMade (ibanParts (now (country .entry)) (now (iid .entry)) (now (account .entry)))
+        (madeIban (now (country .entry)) (now (iid .entry)) (now (account .entry))) (now (dest .entry)) r (now (dest .exit)) ⌝ }
+{
+    packed_laying(make_iban(country, iid, account, dest))
 }

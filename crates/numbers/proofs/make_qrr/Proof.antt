@@ -1,0 +1,78 @@
+-- `numbers::make_qrr` meets its contract: room is asked for before anything is laid. Assumes nothing.
+use native.Mathlib.Omega.{arith}
+use mathlib.Core.Bool.{true, not}
+use mathlib.Core.List.{[], _∷_}
+use mathlib.Core.Path.{_≡_, refl, sym, ap, _∙_}
+use lib.Dec.{eqb}
+use lib.ListN.{length, length-append}
+use borrow.Author.Tests.{eqb-true}
+use borrow.Author.Needs.{needs}
+use Rattle.sieve.specs.Bytes.{every}
+use Rattle.sieve.specs.Letters.{digit}
+use Rattle.sieve.specs.Mod10.{checkDigit}
+use Rattle.numbers.specs.Made.{zeros, qrrPart, laidAt}
+use Rattle.numbers.proofs.Texts.{all3}
+use Rattle.numbers.proofs.Laid.{laid-first, laid-behind}
+use Rattle.numbers.proofs.Promise.{not-formed, no-room, is-laid}
+use Rattle.numbers.proofs.make_qrr.Statement.{statement}
+use Rattle.numbers.proofs.make_qrr.Tie as tie
+
+qrr-part-requires : tie.Need-qrr-part-requires
+qrr-part-requires c κs = search needs
+
+-- what the test of the part says, and how many digits there are then
+formed : (t : tie.Then1) → qrrPart (t .before .before .before .before .args .digits .now) ≡ true
+formed t = sym (t .before .qrr-part .ensures) ∙ t .if1 .taken
+
+twenty-six : (t : tie.Then1) → length (t .before .before .before .before .args .digits .now) ≡ 26
+twenty-six t =
+    let s = t .before .before .before .before .args .digits .now in
+    eqb-true (length s) 26 (all3 (eqb (length s) 26) (every digit s) (not (zeros s)) .0 (formed t) .0)
+
+returns : tie.Need-returns
+returns c =
+    let s = c .before .before .before .before .before .args .digits .now in
+    no-room (formed (c .before)) (omega (arith, c .if2 .taken, twenty-six (c .before), length-append s (checkDigit s ∷ [])))
+
+check-digit-requires : tie.Need-check-digit-requires
+check-digit-requires c κs = search needs
+
+lay-at-requires : tie.Need-lay-at-requires
+lay-at-requires c κs = let left = c .before .before in omega (arith, left .if2 .left, twenty-six (left .before))
+
+slice-aggregate-lay-at : tie.Need-slice-aggregate-lay-at
+slice-aggregate-lay-at c = search needs
+
+lay-at-requires-2 : tie.Need-lay-at-requires-2
+lay-at-requires-2 c κs = search needs
+
+same-length : tie.Need-same-length
+same-length c = search needs
+
+returns-2 : tie.Need-returns-2
+returns-2 c =
+    let left = c .before .before .before .before .before .before .before .before .before .before in
+    let a = c .before .before .before .before .before .before .before .before .before .before .before .before .before .before .before .args in
+    let s = a .digits .now in
+    let n = twenty-six (left .before) in
+    let size = length-append s (checkDigit s ∷ []) in
+    let first = c .before .before .before .before .before .before .before .lay-at .ensures ∙ laid-first (a .dest .now) s in
+    let last = c .before .before .lay-at2 .ensures ∙ ap (laidAt 26 (c .before .before .before .before .before .before .before .before .before .check-digit .result ∷ [])) first ∙ laid-behind (a .dest .now) s (c .before .before .before .before .before .before .before .before .before .check-digit .result ∷ []) 26 n in
+    is-laid (formed (left .before)) (omega (arith, left .if2 .left, n, size)) (omega (arith, n, size)) (rw (c .before .before .before .before .before .before .before .before .before .check-digit .ensures) at last)
+
+returns-3 : tie.Need-returns-3
+returns-3 c = not-formed (sym (c .before .qrr-part .ensures) ∙ c .if1 .left)
+
+pub make-qrr-spec : {M : Type 1} → statement M
+make-qrr-spec =
+    tie.close
+    (tie.spec
+    qrr-part-requires
+    returns
+    check-digit-requires
+    lay-at-requires
+    slice-aggregate-lay-at
+    lay-at-requires-2
+    same-length
+    returns-2
+    returns-3)
