@@ -7,8 +7,8 @@
    What is lent. A payload is `length` bytes at `payload`, of any content and any length; a text, a
    list and a destination are lent in the same way, a list as so many 16-bit numbers, aligned as
    such. No pointer is null, not even where the length is 0.
-   What stays. The calls only read what is lent as const. The list of qrbill_places and a
-   destination are written to only where the call succeeds, and then only in front: what lies behind
+   What stays. The calls only read what is lent as const. The list of qrbill_places, the
+   answers of qrbill_pile and a destination are written to only where the call succeeds, and then only in front: what lies behind
    stays, to the last byte.
    Overlap. What is written to lies apart from all else that is lent to the same call. What is only
    read may overlap.
@@ -105,6 +105,20 @@ uint32_t qrbill_make_scor(const uint8_t *reference, size_t length, uint8_t *dest
 uint32_t qrbill_make_iban(const uint8_t *country, size_t country_length, const uint8_t *iid,
                           size_t iid_length, const uint8_t *account, size_t account_length,
                           uint8_t *destination, size_t room);
+
+/* A pile of bills in one call: `count` bills lie in the buffer, bill i where numbers 2 (i - 1) and
+   2 (i - 1) + 1 of `places`, from 0, say: its start and its length in bytes. They may overlap, lie in
+   any order, and be empty. The answer is 0, and the first two numbers of `answers` for each bill, in
+   turn, are 0 and its line count if it is accepted, or the refusal and the line that qrbill_read
+   names. `numbers` and `room` count numbers; what lies behind the entries stays.
+
+   Else no number of `answers` is changed, and the answer is 1000 times a refusal plus a position:
+
+    5, 0             more than 500 bills, or more than `places` has two numbers for
+   14, the position  the place of a bill lies outside the buffer; the first such, from 1
+   15, 0             `answers` has room for fewer than two numbers a bill */
+uint32_t qrbill_pile(const uint8_t *buffer, size_t length, const uint32_t *places, size_t numbers,
+                     uint32_t count, uint16_t *answers, size_t room);
 
 /* The Austrian girocode (EPC QR code): the same four calls for a payload that begins with BCD. It has
    7 to 12 lines and at most 331 bytes; a list has 24 numbers, start and length of each of 12 lines.

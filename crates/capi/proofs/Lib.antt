@@ -1,4 +1,5 @@
 pub mod Packs
 pub mod Made
+pub mod Piled
 pub mod Read
 pub mod OneAnswer

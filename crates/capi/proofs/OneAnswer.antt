@@ -28,3 +28,7 @@ one-qrbill-make-scor κs a x y v w h k = (h .number ∙ sym (k .number), ap (λ 
 
 pub one-qrbill-make-iban : OneAnswer fn.qrbill_make_iban.ended fn.qrbill_make_iban.Reads.Learnt
 one-qrbill-make-iban κs a x y v w h k = (h .number ∙ sym (k .number), ap (λ d. (tt, (tt, (tt, (d, tt))))) (h .lent ∙ sym (k .lent)))
+
+-- the list at exit too
+pub one-qrbill-pile : OneAnswer fn.qrbill_pile.ended fn.qrbill_pile.Reads.Learnt
+one-qrbill-pile κs a x y v w h k = (h .number ∙ sym (k .number), ap (λ d. (tt, (tt, (tt, (d, tt))))) (h .lent ∙ sym (k .lent)))

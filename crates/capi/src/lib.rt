@@ -1,5 +1,5 @@
 // Calls for C: the verdict on a payload and the place of a line as one number each, the list of places, the account at a
-// glance, the writer, and numbers of our own.
+// glance, the writer, numbers of our own, and a pile of bills.
 use glance::Account;
 use glance::glance;
 use numbers::make_iban;
@@ -10,7 +10,10 @@ use packing::packed_answer;
 use packing::packed_laying;
 use packing::packed_line;
 use packing::packed_place;
+use packing::packed_refusal;
 use packing::packed_verdict;
+use pile::Piled;
+use pile::pile;
 use reader::read;
 use swiss::limits::MOST_LINES;
 use swiss_judge::judge;
@@ -23,7 +26,7 @@ ghost use Rattle.packing.specs.Packing.{packed, breakFor};
 ghost use Rattle.packing.specs.Calls.{packedLine, IsPackedRead, IsPackedWritten};
 ghost use Rattle.glance.specs.Glance.{glance, accountAs};
 ghost use Rattle.numbers.specs.Made.{qrrPart, madeQrr, scorPart, madeScor, ibanParts, madeIban};
-ghost use Rattle.capi.specs.Calls.{packedAccount, IsPackedMade};
+ghost use Rattle.capi.specs.Calls.{packedAccount, IsPackedMade, IsPackedPiled};
 
 // The line count of an accepted payload; of a refused one 1000 times the refusal plus the line.
 #[no_mangle]
@@ -114,4 +117,17 @@ pub extern "C" fn qrbill_make_iban(
         (madeIban (now (country .entry)) (now (iid .entry)) (now (account .entry))) (now (dest .entry)) r (now (dest .exit)) ⌝ }
 {
     packed_laying(make_iban(country, iid, account, dest))
+}
+
+// 0 where each bill of a pile has its entry in the front of the list; else 1000 times the refusal plus the position of a
+// bill, and the list is as it was.
+#[no_mangle]
+pub extern "C" fn qrbill_pile(buffer: &[u8], places: &[u32], count: u32, answers: &mut [u16]) -> u32
+    ensures { λ r.
+        ⌜ IsPackedPiled (now (buffer .entry)) (now (places .entry)) count (now (answers .entry)) r (now (answers .exit)) ⌝ }
+{
+    match pile(buffer, places, count as usize, answers) {
+        Piled::Done => 0,
+        Piled::Refused(fault) => packed_refusal(fault),
+    }
 }

@@ -97,9 +97,9 @@ fn wide_digit(x: u8) -> usize
     wide(x) - 48
 }
 
-// The table of steps, to be lent. Each function that names a constant array stores it anew, so one function names it
-// and it is made once for each check.
-fn steps() -> [u8; 970]
+// The table of steps, to be lent. Each function that names a constant array stores it anew, so one function names it,
+// and whoever checks more than once makes it once.
+pub fn steps() -> [u8; 970]
     ensures { λ r. ⌜ remainders 0 r ≡ true ⌝ }
 {
     STEP
@@ -174,16 +174,24 @@ pub fn remainder_after_by_table(n: u64, s: &[u8]) -> u64
     run(&table, (n % 97) as usize, s) as u64
 }
 
-// What `remainder97` answers, by the table.
+// What `remainder97` answers, by a table that is lent.
+fn remainder97_by(table: &[u8; 970], s: &[u8]) -> u64
+    requires { ⌜ remainders 0 (now table) ≡ true ⌝ }
+    ensures { λ r. ⌜ r ≡ remainder97 (now (s .entry)) ⌝ }
+{
+    if s.len() < 4 {
+        return run(table, 0, s) as u64;
+    }
+    let r = run(table, 0, &s[4..]);
+    run_by_two(table, r, &s[0..4]) as u64
+}
+
+// The same, by a table of its own.
 pub fn remainder97_by_table(s: &[u8]) -> u64
     ensures { λ r. ⌜ r ≡ remainder97 (now (s .entry)) ⌝ }
 {
     let table = steps();
-    if s.len() < 4 {
-        return run(&table, 0, s) as u64;
-    }
-    let r = run(&table, 0, &s[4..]);
-    run_by_two(&table, r, &s[0..4]) as u64
+    remainder97_by(&table, s)
 }
 
 // The number of a text's pair of check digits, its third and fourth characters.
@@ -195,15 +203,24 @@ fn pair_number(s: &[u8]) -> u64
 }
 
 // Whether the two check digits of an IBAN or of a creditor reference are right: 02 to 98, and the remainder is 1. With
-// 00, 01 or 99 it is 1 too, where 97, 98 or 02 is due.
-pub fn checks97(s: &[u8]) -> bool
+// 00, 01 or 99 it is 1 too, where 97, 98 or 02 is due. The table is lent.
+pub fn checks97_by(table: &[u8; 970], s: &[u8]) -> bool
+    requires { ⌜ remainders 0 (now table) ≡ true ⌝ }
     ensures { λ r. ⌜ r ≡ checks97 (now (s .entry)) ⌝ }
 {
     if s.len() < 4 {
         return false;
     }
     let p = pair_number(s);
-    (2 <= p) & (p <= 98) & (remainder97_by_table(s) == 1)
+    (2 <= p) & (p <= 98) & (remainder97_by(table, s) == 1)
+}
+
+// The same, by a table of its own.
+pub fn checks97(s: &[u8]) -> bool
+    ensures { λ r. ⌜ r ≡ checks97 (now (s .entry)) ⌝ }
+{
+    let table = steps();
+    checks97_by(&table, s)
 }
 
 // The decimal number that the first nine characters of a text stand for. They make a number below 100 ^ 9, which a u64

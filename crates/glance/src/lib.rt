@@ -1,4 +1,5 @@
 // Whose account a payload names, at a glance: by its first 37 bytes, and by whether there are more.
+use digits::steps;
 use swiss_rules::account;
 use swiss_rules::header;
 use text::line_at;
@@ -38,7 +39,8 @@ fn look(head: &[u8], more: bool) -> Account
     if found.number != 0 {
         return Account::Unknown;
     }
-    let found = account(&head[fourth_start..fourth_end]);
+    let table = steps();
+    let found = account(&table, &head[fourth_start..fourth_end]);
     let ended = !more | (fourth.next != fourth_end);
     if (found.number == 0) & ended {
         let bytes = fourth_end - fourth_start;

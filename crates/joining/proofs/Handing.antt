@@ -42,7 +42,7 @@ module _ (text : Bytes) (list : List ℕ) (count : ℕ) where
   pub from-start : still text list count 0 ≡ handed text list count
   from-start = rw sub-zero
 
-  next-line : (i : ℕ) → i < count → still text list count i ≡ lineAt text list i ∷ still text list count (i + 1)
+  pub next-line : (i : ℕ) → i < count → still text list count i ≡ lineAt text list i ∷ still text list count (i + 1)
   unfolding handed
   next-line i h = rw (spans-next list count i h)
 
@@ -85,7 +85,7 @@ module _ (text : Bytes) (list : List ℕ) (count : ℕ) where
   none-from e zero h = sym outside-first ∙ e
   none-from e (suc i) h = rw (← add-one i) (inside-here i (omega arith) (none-from e i (omega arith)) .1)
 
-  all-inside : 2 * count ≤ length list → firstOutside text list count ≡ none → Inside text list count
+  pub all-inside : 2 * count ≤ length list → firstOutside text list count ≡ none → Inside text list count
   all-inside size e i h = record { there = omega arith; inside = inside-here i h (none-from e i (omega arith)) .0 }
 
   -- as many as the limits allow can be joined

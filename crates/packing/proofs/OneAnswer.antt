@@ -3,6 +3,9 @@ use mathlib.Core.Path.{refl, sym, _∙_}
 use Rattle.sieve.specs.OneAnswer.{OneAnswer}
 use Rattle.packing.proofs as fn
 
+pub one-packed-refusal : OneAnswer fn.packed_refusal.ended fn.packed_refusal.Reads.Learnt
+one-packed-refusal κs a x y v w h k = (h ∙ sym k, refl)
+
 pub one-packed-place : OneAnswer fn.packed_place.ended fn.packed_place.Reads.Learnt
 one-packed-place κs a x y v w h k = (h ∙ sym k, refl)
 

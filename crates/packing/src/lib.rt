@@ -17,7 +17,7 @@ ghost use Rattle.packing.specs.Calls.{listedPlace, Lists, linePlace};
 const SHIFT: u32 = 1000;
 
 // 1000 times the refusal plus the line.
-fn packed_refusal(fault: Fault) -> u32
+pub fn packed_refusal(fault: Fault) -> u32
     requires { ⌜ paperFault fault .line < shift ⌝ }
     ensures { λ r. ⌜ r ≡ packedRefusal (paperFault fault) ⌝ }
 {

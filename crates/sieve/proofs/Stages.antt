@@ -1,44 +1,47 @@
--- The verdict in two stages: rules 1 to 5 over the whole payload, then the rules about lines. Assumes nothing.
+-- The verdict in stages: that of a layout with some rules about lines, and with more behind them. Assumes nothing.
 use Prim.Native.Nat.{ℕ}
-use mathlib.Core.List.{List, _∷_, map}
+use mathlib.Core.List.{List, _∷_, _++_, map, map-append}
 use mathlib.Core.Option.{Option, some, none}
 use mathlib.Core.Path.{_≡_, sym, ap, _∙_}
 use Rattle.sieve.specs.declared.Break.{Break}
 use Rattle.sieve.specs.Bytes.{Bytes}
 use Rattle.sieve.specs.Lines.{cut, linesOf, billOf}
-use Rattle.sieve.specs.Rules.{Layout}
+use Rattle.sieve.specs.Rules.{Rule, Layout}
 use Rattle.sieve.specs.Verdict.{Refusal, accepted, refused, aboutLines, findings, first, settled, verdict}
-use Rattle.sieve.specs.Whole.{bare}
 use Rattle.sieve.proofs.Firsts.{first-append, passed, stopped}
 use Rattle.sieve.proofs.Findings.{settled-accepts, settled-refuses, verdict-is}
 
-module _ (L : Layout) (p : Bytes) where
-  -- what the rules about lines find
-  abbrev pub inLines : List (Option Refusal)
-  inLines = map (aboutLines (linesOf (cut p))) (L .rules)
+-- a layout with more rules behind its own
+abbrev pub withMore : Layout → List Rule → Layout
+withMore L rs = record { most-bytes = L .most-bytes; fewest-lines = L .fewest-lines; most-lines = L .most-lines; width = L .width; rules = L .rules ++ rs }
 
-  both : first (findings L p) ≡ first (first (findings (bare L) p) ∷ inLines)
+-- what rules find in a payload's lines
+abbrev pub inLines : List Rule → Bytes → List (Option Refusal)
+inLines rs p = map (aboutLines (linesOf (cut p))) rs
+
+module _ (L : Layout) (rs : List Rule) (p : Bytes) where
+  both : first (findings (withMore L rs) p) ≡ first (first (findings L p) ∷ inLines rs p)
   unfolding findings
-  both = sym (first-append (findings (bare L) p) inLines)
+  both = rw (map-append (aboutLines (linesOf (cut p))) (L .rules) rs) (sym (first-append (findings L p) (inLines rs p)))
 
-  -- what refuses the whole payload refuses it
-  pub whole-refused : (r : Refusal) → verdict (bare L) p ≡ refused r → verdict L p ≡ refused r
-  whole-refused r h =
-      let found = settled-refuses (billOf p) (first (findings (bare L) p)) r (sym (verdict-is (bare L) p) ∙ h) in
-      verdict-is L p ∙ ap (settled (billOf p)) (stopped inLines both found)
+  -- what is refused before they are asked is refused
+  pub before-refused : (r : Refusal) → verdict L p ≡ refused r → verdict (withMore L rs) p ≡ refused r
+  before-refused r h =
+      let found = settled-refuses (billOf p) (first (findings L p)) r (sym (verdict-is L p) ∙ h) in
+      verdict-is (withMore L rs) p ∙ ap (settled (billOf p)) (stopped (inLines rs p) both found)
 
-  module _ (n : ℕ) (k : Break) (h : verdict (bare L) p ≡ accepted n k) where
-    bare-settled : (first (findings (bare L) p) ≡ none) × (verdict L p ≡ settled (billOf p) (first inLines))
-    bare-settled =
-        let nothing = settled-accepts (billOf p) (first (findings (bare L) p)) (sym (verdict-is (bare L) p) ∙ h) .0 in
-        (nothing, verdict-is L p ∙ ap (settled (billOf p)) (passed inLines both nothing))
+  module _ (n : ℕ) (k : Break) (h : verdict L p ≡ accepted n k) where
+    before-settled : (first (findings L p) ≡ none) × (verdict (withMore L rs) p ≡ settled (billOf p) (first (inLines rs p)))
+    before-settled =
+        let nothing = settled-accepts (billOf p) (first (findings L p)) (sym (verdict-is L p) ∙ h) .0 in
+        (nothing, verdict-is (withMore L rs) p ∙ ap (settled (billOf p)) (passed (inLines rs p) both nothing))
 
-    -- else it hangs on the rules about lines
+    -- else it hangs on them
 
-    pub lines-kept : first inLines ≡ none → verdict L p ≡ accepted n k
-    lines-kept e =
-        let whole = sym (verdict-is (bare L) p) ∙ h in
-        bare-settled .1 ∙ ap (settled (billOf p)) (e ∙ sym (bare-settled .0)) ∙ whole
+    pub more-kept : first (inLines rs p) ≡ none → verdict (withMore L rs) p ≡ accepted n k
+    more-kept e =
+        let before = sym (verdict-is L p) ∙ h in
+        before-settled .1 ∙ ap (settled (billOf p)) (e ∙ sym (before-settled .0)) ∙ before
 
-    pub lines-broken : (r : Refusal) → first inLines ≡ some r → verdict L p ≡ refused r
-    lines-broken r e = bare-settled .1 ∙ ap (settled (billOf p)) e
+    pub more-broken : (r : Refusal) → first (inLines rs p) ≡ some r → verdict (withMore L rs) p ≡ refused r
+    more-broken r e = before-settled .1 ∙ ap (settled (billOf p)) e

@@ -1,2 +1,3 @@
 pub mod Places
+mod AllRules
 pub mod OneAnswer

@@ -1,7 +1,7 @@
 // The rules about a bill's lines, group by group of lines, in the order of the sieve. A group takes the lines that it is
 // about; those of seven lines take them out of the payload one by one. Once a rule is broken, later groups are left out.
 use digits::checks10;
-use digits::checks97;
+use digits::checks97_by;
 use findings::Finding;
 use findings::KEPT;
 use findings::at_most;
@@ -20,10 +20,11 @@ ghost use mathlib.Core.List.{[], _∷_};
 ghost use mathlib.Core.Path.{_≡_};
 ghost use Prim.Native.Nat.{_≤_};
 ghost use Rattle.sieve.specs.Lines.{cut, linesOf};
-ghost use Rattle.swiss.specs.Swiss.{header, account, address, reserved, payment, reference, information, paired, rules};
+ghost use Rattle.swiss.specs.Swiss.{header, account, address, reserved, payment, reference, information, paired};
 ghost use Rattle.findings.specs.Findings.{finds, from};
 ghost use Rattle.lines.specs.Listed.{listed, Counted};
-ghost use Rattle.swiss_rules.specs.Parts.{absentIf, IsRight, front, middle, back};
+ghost use Rattle.swiss_rules.specs.Parts.{absentIf, IsRight, front, middle, back, afterHeader};
+ghost use Rattle.digits.specs.Steps.{remainders};
 
 // Lines 1 to 3.
 pub fn header(kind: &[u8], version: &[u8], coding: &[u8]) -> Finding
@@ -34,13 +35,14 @@ pub fn header(kind: &[u8], version: &[u8], coding: &[u8]) -> Finding
     fixed(f, coding, 3, &limits::CODING)
 }
 
-// Line 4.
-pub fn account(l: &[u8]) -> Finding
+// Line 4. The table of steps is lent, here and below.
+pub fn account(table: &[u8; 970], l: &[u8]) -> Finding
+    requires { ⌜ remainders 0 (now table) ≡ true ⌝ }
     ensures { λ r. ⌜ r ≡ finds account (from 4 (now (l .entry) ∷ [])) ⌝ }
 {
     let f = filled(KEPT, l, 4, true);
     let f = formed(f, l, 4, swiss_forms::iban(l));
-    checked(f, 4, checks97(l))
+    checked(f, 4, checks97_by(table, l))
 }
 
 // The seven lines of an address, from line n on.
@@ -113,7 +115,8 @@ struct Right {
     checked: bool,
 }
 
-fn right_by_type(l: &[u8], qr: bool, creditor: bool) -> Right
+fn right_by_type(table: &[u8; 970], l: &[u8], qr: bool, creditor: bool) -> Right
+    requires { ⌜ remainders 0 (now table) ≡ true ⌝ }
     ensures { λ r. ⌜ IsRight (now (l .entry)) qr creditor r ⌝ }
 {
     if qr {
@@ -125,7 +128,7 @@ fn right_by_type(l: &[u8], qr: bool, creditor: bool) -> Right
     if creditor {
         return Right {
             formed: swiss_forms::scor(l),
-            checked: checks97(l),
+            checked: checks97_by(table, l),
         };
     }
     Right {
@@ -135,7 +138,8 @@ fn right_by_type(l: &[u8], qr: bool, creditor: bool) -> Right
 }
 
 // Lines 28 and 29.
-fn reference(kind: &[u8], l: &[u8]) -> Finding
+fn reference(table: &[u8; 970], kind: &[u8], l: &[u8]) -> Finding
+    requires { ⌜ remainders 0 (now table) ≡ true ⌝ }
     ensures { λ r. ⌜ r ≡ finds reference (from 28 (now (kind .entry) ∷ now (l .entry) ∷ [])) ⌝ }
 {
     let qr = same(kind, &limits::QR_REFERENCE);
@@ -145,7 +149,7 @@ fn reference(kind: &[u8], l: &[u8]) -> Finding
     let f = formed(f, kind, 28, qr | creditor | none);
     let f = empty(f, l, 29, none);
     let f = filled(f, l, 29, qr | creditor);
-    let right = right_by_type(l, qr, creditor);
+    let right = right_by_type(table, l, qr, creditor);
     let f = formed(f, l, 29, right.formed);
     checked(f, 29, right.checked)
 }
@@ -173,20 +177,24 @@ fn paired(account: &[u8], currency: &[u8], kind: &[u8]) -> bool
     }
 }
 
-// Lines 1 to 11.
-fn front(payload: &[u8], places: &[u16; 68]) -> Finding
+// Lines 1 to 3 of a payload.
+pub fn opening(payload: &[u8], places: &[u16; 68]) -> Finding
     requires { ⌜ now places ≡ listed (now payload) ⌝ }
-    ensures { λ r. ⌜ r ≡ finds front (linesOf (cut (now (payload .entry)))) ⌝ }
+    ensures { λ r. ⌜ r ≡ finds header (linesOf (cut (now (payload .entry)))) ⌝ }
 {
-    let f = header(
+    header(
         line(payload, places, 1),
         line(payload, places, 2),
         line(payload, places, 3),
-    );
-    if f.number != 0 {
-        return f;
-    }
-    let f = account(line(payload, places, 4));
+    )
+}
+
+// Lines 4 to 11.
+fn front(table: &[u8; 970], payload: &[u8], places: &[u16; 68]) -> Finding
+    requires { ⌜ (remainders 0 (now table) ≡ true) × (now places ≡ listed (now payload)) ⌝ }
+    ensures { λ r. ⌜ r ≡ finds front (linesOf (cut (now (payload .entry)))) ⌝ }
+{
+    let f = account(table, line(payload, places, 4));
     if f.number != 0 {
         return f;
     }
@@ -210,12 +218,12 @@ fn middle(payload: &[u8], places: &[u16; 68]) -> Finding
 }
 
 // Lines 28 to 34, of a bill of so many lines, and those that go together.
-fn back(payload: &[u8], places: &[u16; 68], count: usize) -> Finding
-    requires { ⌜ Counted (now payload) (now places) count ⌝ }
+fn back(table: &[u8; 970], payload: &[u8], places: &[u16; 68], count: usize) -> Finding
+    requires { ⌜ (remainders 0 (now table) ≡ true) × Counted (now payload) (now places) count ⌝ }
     ensures { λ r. ⌜ r ≡ finds back (linesOf (cut (now (payload .entry)))) ⌝ }
 {
     let kind = line(payload, places, 28);
-    let f = reference(kind, line(payload, places, 29));
+    let f = reference(table, kind, line(payload, places, 29));
     if f.number != 0 {
         return f;
     }
@@ -241,12 +249,12 @@ fn back(payload: &[u8], places: &[u16; 68], count: usize) -> Finding
     )
 }
 
-// All rules about lines, in the order of the sieve.
-pub fn rules(payload: &[u8], places: &[u16; 68], count: usize) -> Finding
-    requires { ⌜ Counted (now payload) (now places) count ⌝ }
-    ensures { λ r. ⌜ r ≡ finds rules (linesOf (cut (now (payload .entry)))) ⌝ }
+// All rules about lines that come after line 3, in the order of the sieve.
+pub fn rules(table: &[u8; 970], payload: &[u8], places: &[u16; 68], count: usize) -> Finding
+    requires { ⌜ (remainders 0 (now table) ≡ true) × Counted (now payload) (now places) count ⌝ }
+    ensures { λ r. ⌜ r ≡ finds afterHeader (linesOf (cut (now (payload .entry)))) ⌝ }
 {
-    let f = front(payload, places);
+    let f = front(table, payload, places);
     if f.number != 0 {
         return f;
     }
@@ -254,5 +262,5 @@ pub fn rules(payload: &[u8], places: &[u16; 68], count: usize) -> Finding
     if f.number != 0 {
         return f;
     }
-    back(payload, places, count)
+    back(table, payload, places, count)
 }

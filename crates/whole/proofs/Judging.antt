@@ -1,4 +1,4 @@
--- The verdict of a layout, by what rules 1 to 5 answer and what its rules about lines find. Assumes nothing.
+-- The verdict of a layout with more rules about lines, by what is answered without them and what they find. Assumes nothing.
 use Prim.Native.Nat.{ℕ, _≤_}
 use native.Mathlib.Omega.{arith}
 use mathlib.Core.Bool.{Bool, true, false, cond}
@@ -16,11 +16,11 @@ use Rattle.sieve.specs.Bytes.{Bytes}
 use Rattle.sieve.specs.Characters.{Width}
 use Rattle.sieve.specs.Lines.{cut, linesOf, billOf}
 use Rattle.sieve.specs.Paper.{paperFault, paper}
-use Rattle.sieve.specs.Rules.{Layout}
+use Rattle.sieve.specs.Rules.{Rule, Layout}
 use Rattle.sieve.specs.Verdict.{Verdict, accepted, refused, findings, first, settled, verdict}
 use Rattle.sieve.specs.Whole.{plain, bare, limitsOf}
 use Rattle.sieve.proofs.Findings.{found-none, settled-accepts, verdict-is, clear}
-use Rattle.sieve.proofs.Stages.{inLines, whole-refused, lines-kept, lines-broken}
+use Rattle.sieve.proofs.Stages.{withMore, inLines, before-refused, more-kept, more-broken}
 use Rattle.lines.specs.Listed.{room, greatest, listed}
 use Rattle.lines.proofs.Listed.{listed-length}
 use Rattle.whole.specs.Judged.{judgedPlaces, IsJudged}
@@ -29,30 +29,31 @@ found-alike : (L : Layout) (p : Bytes) (w : Width) → L .width (linesOf (cut p)
 unfolding findings
 found-alike L p w e = rw e
 
-module _ (L : Layout) (p : Bytes) where
-  judged : {r : Answer} {after : List ℕ} → verdict L p ≡ paper r → after ≡ judgedPlaces p (paper r) → IsJudged L p r after
-  judged v l = record { answer = sym v; places = l ∙ sym (ap (judgedPlaces p) v) }
+judged : (L : Layout) (p : Bytes) {r : Answer} {after : List ℕ} → verdict L p ≡ paper r → after ≡ judgedPlaces p (paper r) → IsJudged L p r after
+judged L p v l = record { answer = sym v; places = l ∙ sym (ap (judgedPlaces p) v) }
 
-  -- what is refused as a whole is refused
-  pub refused-whole : {f : Fault} {after : List ℕ} → IsJudged (bare L) p (Refused f) after → IsJudged L p (Refused f) after
-  refused-whole {f} is = judged (whole-refused L p (paperFault f) (sym (is .answer))) (is .places ∙ sym (ap (judgedPlaces p) (is .answer)))
+-- from a layout to one with more rules about lines behind its own
+module _ (L : Layout) (rs : List Rule) (p : Bytes) where
+  -- what is refused before they are asked is refused
+  pub refused-before : {f : Fault} {after : List ℕ} → IsJudged L p (Refused f) after → IsJudged (withMore L rs) p (Refused f) after
+  refused-before {f} is = judged _ p (before-refused L rs p (paperFault f) (sym (is .answer))) (is .places ∙ sym (ap (judgedPlaces p) (is .answer)))
 
-  -- else the rules about lines decide
+  -- else they decide
 
-  module _ {n : ℕ} {k : Break} {places : List ℕ} (is : IsJudged (bare L) p (Accepted n k) places) where
-    pub kept : first (inLines L p) ≡ none → IsJudged L p (Accepted n k) places
-    kept nothing = judged (lines-kept L p n k (sym (is .answer)) nothing) (is .places ∙ sym (ap (judgedPlaces p) (is .answer)))
+  module _ {n : ℕ} {k : Break} {places : List ℕ} (is : IsJudged L p (Accepted n k) places) where
+    pub kept : first (inLines rs p) ≡ none → IsJudged (withMore L rs) p (Accepted n k) places
+    kept nothing = judged _ p (more-kept L rs p n k (sym (is .answer)) nothing) (is .places ∙ sym (ap (judgedPlaces p) (is .answer)))
 
-    pub broken : {r : Answer} {after : List ℕ} (f : Fault) → first (inLines L p) ≡ some (paperFault f) → r ≡ Refused f → after ≡ replicate room 0 → IsJudged L p r after
-    broken f found same gone = rw same (judged (lines-broken L p n k (sym (is .answer)) (paperFault f) found) gone)
+    pub broken : {r : Answer} {after : List ℕ} (f : Fault) → first (inLines rs p) ≡ some (paperFault f) → r ≡ Refused f → after ≡ replicate room 0 → IsJudged (withMore L rs) p r after
+    broken f found same gone = rw same (judged _ p (more-broken L rs p n k (sym (is .answer)) (paperFault f) found) gone)
 
-    -- the list has the places of the payload's lines, and the count is theirs
-    pub counted : L .most-bytes ≤ greatest → (places ≡ listed p) × (n ≡ length (linesOf (cut p)))
-    unfolding billOf
-    counted few =
-        let accepted-is = settled-accepts (billOf p) (first (findings (bare L) p)) (sym (verdict-is (bare L) p) ∙ sym (is .answer)) in
-        let short : length p ≤ L .most-bytes = ltb-false _ _ (found-none _ _ (clear (bare L) p (accepted-is .0) .not-too-many)) in
-        (is .places ∙ sym (ap (judgedPlaces p) (is .answer)) ∙ rw (le-leb (length p) greatest (omega arith)), sym (accepted-is .1))
+-- of what is accepted, the list has the places of the lines, and the count is theirs
+pub counted : (L : Layout) (p : Bytes) {n : ℕ} {k : Break} {places : List ℕ} → IsJudged L p (Accepted n k) places → L .most-bytes ≤ greatest → (places ≡ listed p) × (n ≡ length (linesOf (cut p)))
+unfolding billOf
+counted L p is few =
+    let accepted-is = settled-accepts (billOf p) (first (findings L p)) (sym (verdict-is L p) ∙ sym (is .answer)) in
+    let short : length p ≤ L .most-bytes = ltb-false _ _ (found-none _ _ (clear L p (accepted-is .0) .not-too-many)) in
+    (is .places ∙ sym (ap (judgedPlaces p) (is .answer)) ∙ rw (le-leb (length p) greatest (omega arith)), sym (accepted-is .1))
 
 -- the characters that a payload's lines choose serve as the layout's own: no other lines are asked
 pub by-its-lines : (L : Layout) (p : Bytes) (w : Width) → L .width (linesOf (cut p)) ≡ w → {r : Answer} {after : List ℕ} → IsJudged (plain (limitsOf L) w) p r after → IsJudged (bare L) p r after

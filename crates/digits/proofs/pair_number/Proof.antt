@@ -1,5 +1,5 @@
 -- `digits::pair_number` meets its contract: the third and the fourth character, read one after the other. Assumes nothing.
-use Prim.Native.Nat.{_≤_}
+use Prim.Native.Nat.{ℕ, _^_, _≤_, _<_}
 use native.Mathlib.Omega.{arith}
 use mathlib.Core.List.{[], _∷_}
 use mathlib.Core.Path.{_≡_, _∙_}
@@ -19,6 +19,10 @@ pair-read (a ∷ b ∷ []) h = absurd (omega arith)
 pair-read (a ∷ b ∷ x ∷ []) h = absurd (omega arith)
 pair-read (a ∷ b ∷ x ∷ y ∷ s) h = let first : onto 0 x ≡ value x = omega arith in rw first
 
+-- what any character stands for leaves room for one more
+room-for-more : (x : ℕ) → value x < 100 ^ 8
+room-for-more x = omega (arith, value-small x)
+
 shared-slice-read-value : tie.Need-shared-slice-read-value
 shared-slice-read-value c = search needs
 
@@ -28,13 +32,13 @@ value-requires c κs = search needs
 shared-slice-read-extended : tie.Need-shared-slice-read-extended
 shared-slice-read-extended c = search needs
 
+extended-requires : tie.Need-extended-requires
+extended-requires c κs = rw (c .before .value .ensures) (search room-for-more)
+
 returns : tie.Need-returns
 returns c =
     let start = c .before .before .before .before .before in
     c .extended .ensures ∙ rw (c .before .before .value .ensures) (pair-read (start .args .s .now) (start .pre))
-
-extended-requires : tie.Need-extended-requires
-extended-requires c κs = omega (arith, value-small (getD (c .before .before .before .before .args .s .now) 2 0))
 
 pub pair-number-spec : {M : Type 1} → statement M
 pair-number-spec = tie.close (tie.spec shared-slice-read-value value-requires shared-slice-read-extended extended-requires returns)

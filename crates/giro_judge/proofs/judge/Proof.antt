@@ -16,7 +16,7 @@ use Rattle.sieve.specs.Whole.{plain, bare, limitsOf}
 use Rattle.girocode.specs.Girocode.{rules, girocode}
 use Rattle.findings.proofs.Looking.{numbered, found-nothing, found-fault}
 use Rattle.whole.specs.Judged.{IsJudged}
-use Rattle.whole.proofs.Judging.{refused-whole, kept, broken, counted, by-its-lines}
+use Rattle.whole.proofs.Judging.{refused-before, kept, broken, counted, by-its-lines}
 use borrow.Author.Needs.{needs}
 use Rattle.giro_judge.proofs.judge.Statement.{statement}
 use Rattle.giro_judge.proofs.judge.Tie as tie
@@ -59,7 +59,7 @@ rules-requires c κs =
     let at-choice = at-whole .before .before in
     let at-start = at-choice .before .before .before in
     let is = rw (c .before .before .n .given .1) at (by-choice at-choice (at-whole .whole .ensures)) in
-    let (listed-is, count-is) = counted girocode (at-start .args .payload .now) is (lit≤ tt) in
+    let (listed-is, count-is) = counted (bare girocode) (at-start .args .payload .now) is (lit≤ tt) in
     (record { listed = listed-is; coded = at-choice .before .read-as-iso .ensures }, record { listed = listed-is; counted = count-is })
 
 clear-requires : tie.Need-clear-requires
@@ -78,7 +78,7 @@ returns c =
     let is = rw (at-test .before .before .before .before .before .n .given .1) at (by-choice at-choice (at-whole .whole .ensures)) in
     let found = at-test .before .before .rules .ensures in
     let is-fault = rw (← found, ← c .fault-of .ensures) at (found-fault (ls at-start) rules rules-numbered (rw found at (at-test .if2 .taken))) in
-    broken girocode (at-start .args .payload .now) is (c .fault-of .result) is-fault refl (c .before .clear .ensures)
+    broken (bare girocode) rules (at-start .args .payload .now) is (c .fault-of .result) is-fault refl (c .before .clear .ensures)
 
 returns-2 : tie.Need-returns-2
 unfolding girocode
@@ -86,7 +86,7 @@ returns-2 c =
     let at-whole = c .before .before .before in
     let at-choice = at-whole .before .before in
     let at-start = at-choice .before .before .before in
-    refused-whole girocode (at-start .args .payload .now) (rw (c .before .f .given .1) at (by-choice at-choice (at-whole .whole .ensures)))
+    refused-before (bare girocode) rules (at-start .args .payload .now) (rw (c .before .f .given .1) at (by-choice at-choice (at-whole .whole .ensures)))
 
 returns-3 : tie.Need-returns-3
 unfolding girocode
@@ -96,7 +96,7 @@ returns-3 c =
     let at-start = at-choice .before .before .before in
     let is = rw (c .before .before .before .before .before .n .given .1) at (by-choice at-choice (at-whole .whole .ensures)) in
     let found = c .before .before .rules .ensures in
-    kept girocode (at-start .args .payload .now) is (found-nothing (ls at-start) rules rules-numbered (rw found at (c .if2 .left)))
+    kept (bare girocode) rules (at-start .args .payload .now) is (found-nothing (ls at-start) rules rules-numbered (rw found at (c .if2 .left)))
 
 pub judge-spec : {M : Type 1} → statement M
 judge-spec =

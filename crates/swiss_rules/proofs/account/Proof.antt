@@ -15,15 +15,15 @@ iban-requires c κs = search needs
 formed-requires : tie.Need-formed-requires
 formed-requires c κs = search needs
 
-checks97-requires : tie.Need-checks97-requires
-checks97-requires c κs = search needs
+checks97-by-requires : tie.Need-checks97-by-requires
+checks97-by-requires c κs = search needs
 
 checked-requires : tie.Need-checked-requires
 checked-requires c κs = search needs
 
 returns : tie.Need-returns
 unfolding looked numbered
-returns c = rw (c .checked .ensures, c .before .checks97 .ensures, c .before .before .formed .ensures, c .before .before .before .iban .ensures, c .before .before .before .before .filled .ensures) (looked-finds account _ refl)
+returns c = rw (c .checked .ensures, c .before .checks97-by .ensures, c .before .before .formed .ensures, c .before .before .before .iban .ensures, c .before .before .before .before .filled .ensures) (looked-finds account _ refl)
 
 pub account-spec : {M : Type 1} → statement M
 account-spec =
@@ -32,6 +32,6 @@ account-spec =
     filled-requires
     iban-requires
     formed-requires
-    checks97-requires
+    checks97-by-requires
     checked-requires
     returns)

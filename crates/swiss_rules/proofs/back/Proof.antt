@@ -52,7 +52,9 @@ unfolding back flatten numbered
 returns-2 c = let at-information = c .before .before in group-passed _ reference _ refl (reference-is (at-information .before .before .before .before .before .before)) (at-information .before .before .before .before .if1 .left) (group-stops _ information _ (information-is at-information) (c .if2 .taken))
 
 line-requires-6 : tie.Need-line-requires-6
-line-requires-6 c κs = search needs
+line-requires-6 c κs =
+    let at-start = c .before .before .before .before .before .before .before .before .before .before .before .before in
+    (at-start .pre .1 .listed, lit≤ tt, lit≤ tt)
 
 filled-requires : tie.Need-filled-requires
 filled-requires c κs = search needs
@@ -63,7 +65,7 @@ at-most-requires c κs = search needs
 line-requires-7 : tie.Need-line-requires-7
 line-requires-7 c κs =
     let at-start = c .before .before .before .before .before .before .before .before .before .before .before .before .before .before .before in
-    (at-start .pre .listed, lit≤ tt, lit≤ tt)
+    (at-start .pre .1 .listed, lit≤ tt, lit≤ tt)
 
 filled-requires-2 : tie.Need-filled-requires-2
 filled-requires-2 c κs = search needs
@@ -74,12 +76,12 @@ at-most-requires-2 c κs = search needs
 line-requires-8 : tie.Need-line-requires-8
 line-requires-8 c κs =
     let at-start = c .before .before .before .before .before .before .before .before .before .before .before .before .before .before .before .before .before .before in
-    (at-start .pre .listed, lit≤ tt, lit≤ tt)
+    (at-start .pre .1 .listed, lit≤ tt, lit≤ tt)
 
 line-requires-9 : tie.Need-line-requires-9
 line-requires-9 c κs =
     let at-start = c .before .before .before .before .before .before .before .before .before .before .before .before .before .before .before .before .before .before .before in
-    (at-start .pre .listed, lit≤ tt, lit≤ tt)
+    (at-start .pre .1 .listed, lit≤ tt, lit≤ tt)
 
 paired-requires : tie.Need-paired-requires
 paired-requires c κs = search needs
@@ -100,7 +102,7 @@ returns-3 c =
     let at-third = at-fourth .before .before .before in
     let at-information = at-third .before .before .before .before .before in
     let at-reference = at-information .before .before .before .before .before .before in
-    let count = at-reference .before .before .before .before .pre .counted in
+    let count = at-reference .before .before .before .before .pre .1 .counted in
     let kind = at-reference .before .before .line .ensures in
     let message = at-information .before .before .before .line3 .ensures in
     let billing = at-information .before .before .line4 .ensures in

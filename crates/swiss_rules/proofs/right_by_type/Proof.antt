@@ -15,11 +15,11 @@ returns c = rw (c .before .before .if1 .taken) (record { formed = c .before .qrr
 scor-requires : tie.Need-scor-requires
 scor-requires c κs = search needs
 
-checks97-requires : tie.Need-checks97-requires
-checks97-requires c κs = search needs
+checks97-by-requires : tie.Need-checks97-by-requires
+checks97-by-requires c κs = search needs
 
 returns-2 : tie.Need-returns-2
-returns-2 c = rw (c .before .before .before .if1 .left, c .before .before .if2 .taken) (record { formed = c .before .scor .ensures; checked = c .checks97 .ensures })
+returns-2 c = rw (c .before .before .before .if1 .left, c .before .before .if2 .taken) (record { formed = c .before .scor .ensures; checked = c .checks97-by .ensures })
 
 returns-3 : tie.Need-returns-3
 returns-3 c = search needs
@@ -32,6 +32,6 @@ right-by-type-spec =
     checks10-requires
     returns
     scor-requires
-    checks97-requires
+    checks97-by-requires
     returns-2
     returns-3)

@@ -1,18 +1,15 @@
--- `digits::remainder97_by_table` meets its contract: the text from its fifth character on is read, and after it the first four. Assumes nothing.
+-- `digits::remainder97_by` meets its contract: the text from its fifth character on is read, and after it the first four. Assumes nothing.
 use mathlib.Core.Path.{_∙_}
 use borrow.Author.Needs.{needs}
 use Rattle.digits.proofs.Moved.{unmoved, moved}
-use Rattle.digits.proofs.remainder97_by_table.Statement.{statement}
-use Rattle.digits.proofs.remainder97_by_table.Tie as tie
-
-steps-requires : tie.Need-steps-requires
-steps-requires c κs = search needs
+use Rattle.digits.proofs.remainder97_by.Statement.{statement}
+use Rattle.digits.proofs.remainder97_by.Tie as tie
 
 run-requires : tie.Need-run-requires
 run-requires c κs = search needs
 
 returns : tie.Need-returns
-returns c = c .run .ensures ∙ unmoved (c .before .before .before .before .before .args .s .now) (c .before .before .if1 .taken)
+returns c = c .run .ensures ∙ unmoved (c .before .before .before .args .s .now) (c .before .if1 .taken)
 
 sub-run : tie.Need-sub-run
 sub-run c = search needs
@@ -39,13 +36,12 @@ run-by-two-requires : tie.Need-run-by-two-requires
 run-by-two-requires c κs = search needs
 
 returns-2 : tie.Need-returns-2
-returns-2 c = c .run-by-two .ensures ∙ moved (c .before .before .before .before .before .before .before .before .before .args .s .now) _ (c .before .before .before .run2 .ensures)
+returns-2 c = c .run-by-two .ensures ∙ moved (c .before .before .before .before .before .before .args .s .now) _ (c .before .before .run2 .ensures)
 
-pub remainder97-by-table-spec : {M : Type 1} → statement M
-remainder97-by-table-spec =
+pub remainder97-by-spec : {M : Type 1} → statement M
+remainder97-by-spec =
     tie.close
     (tie.spec
-    steps-requires
     run-requires
     returns
     sub-run

@@ -1,0 +1,57 @@
+/* Judges a pile of bills, or the same bills one by one, for bench/pile to count instructions:
+
+       pile_calls pile|single TIMES < bills
+
+   Standard input has a length of four bytes, the lowest first, and that many bytes for each bill. It
+   writes how many of them are accepted, after a first round, and then goes round TIMES times. */
+
+#include <stdio.h>
+#include <stdlib.h>
+
+#include "qrbill.h"
+
+enum { MOST_BILLS = 500, MOST_BYTES = 1000 };
+
+static uint8_t buffer[MOST_BILLS * MOST_BYTES];
+static uint32_t places[2 * MOST_BILLS], count;
+static uint16_t answers[2 * MOST_BILLS];
+
+static void read_bills(void)
+{
+    uint32_t start = 0, length;
+    while (count < MOST_BILLS && fread(&length, sizeof length, 1, stdin) == 1 &&
+           length <= MOST_BYTES && fread(buffer + start, 1, length, stdin) == length) {
+        places[2 * count] = start;
+        places[2 * count + 1] = length;
+        start += length;
+        count++;
+    }
+}
+
+static void go_round(char kind)
+{
+    if (kind == 'p') {
+        qrbill_pile(buffer, sizeof buffer, places, 2 * MOST_BILLS, count, answers, 2 * MOST_BILLS);
+        return;
+    }
+    for (uint32_t i = 0; i < count; i++) {
+        const uint32_t answer = qrbill_read(buffer + places[2 * i], places[2 * i + 1]);
+        answers[2 * i] = (uint16_t)(answer / 1000);
+        answers[2 * i + 1] = (uint16_t)(answer % 1000);
+    }
+}
+
+int main(int argc, char **argv)
+{
+    unsigned accepted = 0;
+    if (argc != 3)
+        return 1;
+    read_bills();
+    go_round(argv[1][0]);
+    for (uint32_t i = 0; i < count; i++)
+        accepted += answers[2 * i] == 0;
+    printf("%u of %u\n", accepted, (unsigned)count);
+    for (int left = atoi(argv[2]); left > 0; left--)
+        go_round(argv[1][0]);
+    return 0;
+}

@@ -1,0 +1,111 @@
+// A morning's pile: bills that lie in one buffer, each judged, and an entry for each.
+use digits::steps;
+use sieve::Answer;
+use sieve::Fault;
+use sieve::line_of;
+use sieve::number_of;
+use swiss_judge::judge_by;
+ghost use mathlib.Core.Bool.{true};
+ghost use mathlib.Core.Path.{_≡_};
+ghost use Prim.Native.Nat.{_*_, _≤_};
+ghost use lib.ListN.{length};
+ghost use Rattle.sieve.specs.Bytes.{over};
+ghost use Rattle.sieve.specs.Paper.{paper};
+ghost use Rattle.sieve.specs.Verdict.{verdict};
+ghost use Rattle.swiss.specs.Swiss.{swiss};
+ghost use Rattle.digits.specs.Steps.{remainders};
+ghost use Rattle.pile.specs.Pile.{outsideAt, entry, Small, entries, Fillable, IsPiled};
+
+const MOST_BILLS: usize = 500;
+
+// What is answered of a pile: each bill has its entry, or none has.
+pub enum Piled {
+    Done,
+    Refused(Fault),
+}
+
+// The position of the first bill whose place lies outside the buffer, counted from 1; 0 where none does.
+fn first_outside(buffer: &[u8], places: &[u32], count: usize) -> usize
+    requires { ⌜ 2 * count ≤ length (now places) ⌝ }
+    ensures { λ r. ⌜ r ≡ outsideAt (now (buffer .entry)) (now (places .entry)) count ⌝ }
+{
+    let mut i = 0;
+    while i < count {
+        let start = places[2 * i] as usize;
+        let bytes = places[2 * i + 1] as usize;
+        if buffer.len() < start + bytes {
+            return i + 1;
+        }
+        i += 1;
+    }
+    0
+}
+
+// Puts a bill's answer into its own part of the list.
+fn lay_entry(part: &mut [u16], answer: Answer)
+    requires { ⌜ (length (now part) ≡ 2) × Small (paper answer) ⌝ }
+    ensures { λ _. ⌜ now (part .exit) ≡ entry (paper answer) ⌝ }
+{
+    match answer {
+        Answer::Accepted(n, _) => {
+            part[0] = 0;
+            part[1] = n as u16;
+        }
+        Answer::Refused(f) => {
+            part[0] = number_of(f) as u16;
+            part[1] = line_of(f) as u16;
+        }
+    }
+}
+
+// Judges a bill, and puts its answer into its own part of the list.
+fn judge_bill(table: &[u8; 970], bill: &[u8], part: &mut [u16])
+    requires { ⌜ (remainders 0 (now table) ≡ true) × (length (now part) ≡ 2) ⌝ }
+    ensures { λ _. ⌜ now (part .exit) ≡ entry (verdict swiss (now (bill .entry))) ⌝ }
+{
+    let mut lines = [0; 68];
+    let answer = judge_by(table, bill, &mut lines);
+    lay_entry(part, answer);
+}
+
+// Judges bill after bill. One bill's answer says nothing about another's. The table of steps is made once for all.
+fn judge_all(buffer: &[u8], places: &[u32], count: usize, answers: &mut [u16])
+    requires { ⌜ Fillable (now buffer) (now places) count (now answers) ⌝ }
+    ensures { λ _.
+        ⌜ now (answers .exit) ≡ over (now (answers .entry)) (entries (now (buffer .entry)) (now (places .entry)) count) ⌝ }
+{
+    let table = steps();
+    let mut i = 0;
+    while i < count {
+        let start = places[2 * i] as usize;
+        let end = start + places[2 * i + 1] as usize;
+        let at = 2 * i;
+        let next = at + 2;
+        judge_bill(&table, &buffer[start..end], &mut answers[at..next]);
+        i += 1;
+    }
+}
+
+// Judges the bills that the first `count` places give of the buffer, and puts an entry for each into the front of the
+// list: 0 and the line count of an accepted bill, or the refusal's number and line. A refusal of the pile changes no
+// number.
+pub fn pile(buffer: &[u8], places: &[u32], count: usize, answers: &mut [u16]) -> Piled
+    ensures { λ r.
+        ⌜ IsPiled (now (buffer .entry)) (now (places .entry)) count (now (answers .entry)) r (now (answers .exit)) ⌝ }
+{
+    if MOST_BILLS < count {
+        return Piled::Refused(Fault::LineCount(0));
+    }
+    if places.len() < 2 * count {
+        return Piled::Refused(Fault::LineCount(0));
+    }
+    let outside = first_outside(buffer, places, count);
+    if outside != 0 {
+        return Piled::Refused(Fault::OutsideText(outside));
+    }
+    if answers.len() < 2 * count {
+        return Piled::Refused(Fault::NoRoom);
+    }
+    judge_all(buffer, places, count, answers);
+    Piled::Done
+}
