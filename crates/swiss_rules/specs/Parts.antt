@@ -1,4 +1,4 @@
--- The list of rules after the header, in three parts, and what the code knows of a bill's lines. Assumes nothing.
+-- The list of rules after the header, in three parts; an address that may be absent, and a reference by its type. Assumes nothing.
 use Prim.Native.Nat.{ℕ}
 use mathlib.Core.Bool.{Bool, true, cond, _&&_}
 use mathlib.Core.List.{List, [], _∷_, flatten}

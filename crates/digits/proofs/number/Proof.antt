@@ -37,6 +37,18 @@ no-more s i h = go (ltb i 9) refl
     go true e = omega (arith, ltb-false i (length s) (rw e at h), length-take 9 s)
     go false e = omega (arith, ltb-false i 9 e, length-take 9 s)
 
+loop-again : tie.Need-loop-again Inv-loop μ-loop
+loop-again c =
+    let l = c .before .before .before in
+    let i = l .loop .i in
+    let s = l .before .before .args .s .now in
+    let (few, here) = more (c .before .before) in
+    rw (c .extended .ensures) (
+      omega (arith, length-take 9 s),
+      onto-small i (l .loop .n) (getD s i 0) (l .loop .inv .1),
+      l .loop .inv .2 ∙ rw (getD-take 9 s i 0 few) at (step numbers (l .loop .n) (take 9 s) i (omega (arith, length-take 9 s))),
+    )
+
 shared-slice-read-extended : tie.Need-shared-slice-read-extended Inv-loop μ-loop
 shared-slice-read-extended c = more (c .before) .1
 
@@ -51,18 +63,6 @@ add-i c = omega (arith, more (c .before .before))
 
 loop-less : tie.Need-loop-less Inv-loop μ-loop
 loop-less c = omega (arith, more (c .before .before))
-
-loop-again : tie.Need-loop-again Inv-loop μ-loop
-loop-again c =
-    let l = c .before .before .before in
-    let i = l .loop .i in
-    let s = l .before .before .args .s .now in
-    let (few, here) = more (c .before .before) in
-    rw (c .extended .ensures) (
-      omega (arith, length-take 9 s),
-      onto-small i (l .loop .n) (getD s i 0) (l .loop .inv .1),
-      l .loop .inv .2 ∙ rw (getD-take 9 s i 0 few) at (step numbers (l .loop .n) (take 9 s) i (omega (arith, length-take 9 s))),
-    )
 
 returns : tie.Need-returns Inv-loop μ-loop
 returns c =
