@@ -15,8 +15,9 @@ GUIDE = subprocess.run(['rt', 'doc'], check=True, stdout=subprocess.PIPE, text=T
 OWN = Path(GUIDE).parent.parent / 'on' / platform.machine()
 TOOLS = OWN / 'toolchain'
 EMULATOR = TOOLS / 'bin' / 'qemu-x86_64'  # only where the machine is not x86-64
+CLANG = [TOOLS / 'bin' / 'clang', f'--target={TARGET}']
 FLAGS = [
-    f'--target={TARGET}', '-std=c17', '-O2', '-Wall', '-Wextra', '-Wpedantic', '-Werror',
+    '-std=c17', '-O2', '-Wall', '-Wextra', '-Wpedantic', '-Werror',
     '-nostdinc', '-isystem', ROOT / 'tests' / 'host' / 'headers', '-I', ROOT / 'include',
 ]
 
@@ -30,11 +31,11 @@ def quietly(words, folder=None):
     ran.check_returncode()
 
 
-def compiled(source: Path, folder: Path, *flags: str) -> Path:
+def compiled(source: Path, folder: Path, *flags: str, compiler=CLANG) -> Path:
     """Compile a C file, with these flags too; the object file lies in the folder."""
     folder.mkdir(parents=True, exist_ok=True)
     made = folder / f'{source.stem}.o'
-    quietly([TOOLS / 'bin' / 'clang', *FLAGS, *flags, '-c', source, '-o', made])
+    quietly([*compiler, *FLAGS, *flags, '-c', source, '-o', made])
     return made
 
 
