@@ -16,8 +16,12 @@ unmoved s h =
     rw (drop-of-length-le s p, take-all 4 s p)
 
 -- two readings, the second after the remainder that the first leaves
-pub moved : (s : Bytes) (r : ℕ) → r ≡ number 0 (take (length s - 4) (drop 4 s)) % 97 → number r (take 4 s) % 97 ≡ remainder97 s
+pub moved-behind : (s : Bytes) (r : ℕ) → r ≡ number 0 (drop 4 s) % 97 → number r (take 4 s) % 97 ≡ remainder97 s
 unfolding remainder97
+moved-behind s r e = rw (e, appended) (sym (carried (number 0 (drop 4 s)) (take 4 s)))
+
+-- what is behind the four, as the part of the text that it is
+pub moved : (s : Bytes) (r : ℕ) → r ≡ number 0 (take (length s - 4) (drop 4 s)) % 97 → number r (take 4 s) % 97 ≡ remainder97 s
 moved s r e =
     let p : length (drop 4 s) ≤ length s - 4 = simp length-drop (omega arith) in
-    rw (e, take-all (length s - 4) (drop 4 s) p, appended) (sym (carried (number 0 (drop 4 s)) (take 4 s)))
+    moved-behind s r (rw (take-all (length s - 4) (drop 4 s) p) at e)

@@ -1,11 +1,7 @@
 -- The contract of each public function leaves one answer. Assumes nothing.
 use mathlib.Core.Path.{refl, sym, _∙_}
 use Rattle.sieve.specs.OneAnswer.{OneAnswer}
-use Rattle.digits.proofs.Entries.{alike}
 use Rattle.digits.proofs as fn
-
-pub one-steps : OneAnswer fn.steps.ended fn.steps.Reads.Learnt
-one-steps κs a x y v w h k = (alike 0 x y h k, refl)
 
 pub one-remainder-after : OneAnswer fn.remainder_after.ended fn.remainder_after.Reads.Learnt
 one-remainder-after κs a x y v w h k = (h ∙ sym k, refl)
@@ -19,14 +15,17 @@ one-remainder-after-by-table κs a x y v w h k = (h ∙ sym k, refl)
 pub one-remainder97-by-table : OneAnswer fn.remainder97_by_table.ended fn.remainder97_by_table.Reads.Learnt
 one-remainder97-by-table κs a x y v w h k = (h ∙ sym k, refl)
 
-pub one-checks97-by : OneAnswer fn.checks97_by.ended fn.checks97_by.Reads.Learnt
-one-checks97-by κs a x y v w h k = (h ∙ sym k, refl)
-
 pub one-checks97 : OneAnswer fn.checks97.ended fn.checks97.Reads.Learnt
 one-checks97 κs a x y v w h k = (h ∙ sym k, refl)
 
 pub one-number : OneAnswer fn.number.ended fn.number.Reads.Learnt
 one-number κs a x y v w h k = (h ∙ sym k, refl)
+
+pub one-decimal-of : OneAnswer fn.decimal_of.ended fn.decimal_of.Reads.Learnt
+one-decimal-of κs a x y v w h k = (h ∙ sym k, refl)
+
+pub one-checks97-with : OneAnswer fn.checks97_with.ended fn.checks97_with.Reads.Learnt
+one-checks97-with κs a x y v w h k = (h ∙ sym k, refl)
 
 pub one-check-digit : OneAnswer fn.check_digit.ended fn.check_digit.Reads.Learnt
 one-check-digit κs a x y v w h k = (h ∙ sym k, refl)

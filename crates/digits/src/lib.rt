@@ -2,14 +2,17 @@
 mod table;
 
 use crate::table::STEP;
-ghost use mathlib.Core.Bool.{true};
+ghost use mathlib.Core.Bool.{true, _&&_};
+ghost use mathlib.Core.List.{_++_};
 ghost use mathlib.Core.Path.{_≡_};
 ghost use Prim.Native.Nat.{_+_, _-_, _*_, _%_, _^_, _≤_, _<_};
-ghost use lib.ListN.{length, take, getD};
+ghost use lib.ListN.{length, take, drop, getD};
+ghost use Rattle.sieve.specs.Bytes.{every};
 ghost use Rattle.sieve.specs.Letters.{digit};
 ghost use Rattle.sieve.specs.Mod97.{value, onto, number, remainder97, pair, checks97};
 ghost use Rattle.sieve.specs.Mod10.{nextCarry, checkDigit, checks10};
 ghost use Rattle.digits.specs.Steps.{remainders};
+ghost use Rattle.digits.specs.Decimals.{decimalOf};
 
 // One of 0-9.
 fn is_digit(x: u8) -> bool
@@ -98,8 +101,8 @@ fn wide_digit(x: u8) -> usize
 }
 
 // The table of steps, to be lent. Each function that names a constant array stores it anew, so one function names it,
-// and whoever checks more than once makes it once.
-pub fn steps() -> [u8; 970]
+// once for each text.
+fn steps() -> [u8; 970]
     ensures { λ r. ⌜ remainders 0 r ≡ true ⌝ }
 {
     STEP
@@ -203,24 +206,15 @@ fn pair_number(s: &[u8]) -> u64
 }
 
 // Whether the two check digits of an IBAN or of a creditor reference are right: 02 to 98, and the remainder is 1. With
-// 00, 01 or 99 it is 1 too, where 97, 98 or 02 is due. The table is lent.
-pub fn checks97_by(table: &[u8; 970], s: &[u8]) -> bool
-    requires { ⌜ remainders 0 (now table) ≡ true ⌝ }
+// 00, 01 or 99 it is 1 too, where 97, 98 or 02 is due.
+pub fn checks97(s: &[u8]) -> bool
     ensures { λ r. ⌜ r ≡ checks97 (now (s .entry)) ⌝ }
 {
     if s.len() < 4 {
         return false;
     }
     let p = pair_number(s);
-    (2 <= p) & (p <= 98) & (remainder97_by(table, s) == 1)
-}
-
-// The same, by a table of its own.
-pub fn checks97(s: &[u8]) -> bool
-    ensures { λ r. ⌜ r ≡ checks97 (now (s .entry)) ⌝ }
-{
-    let table = steps();
-    checks97_by(&table, s)
+    (2 <= p) & (p <= 98) & (remainder97_by_table(s) == 1)
 }
 
 // The decimal number that the first nine characters of a text stand for. They make a number below 100 ^ 9, which a u64
@@ -237,7 +231,50 @@ pub fn number(s: &[u8]) -> u64
     n
 }
 
-const NEXT_CARRY: [u8; 10] = [0, 9, 4, 6, 8, 2, 7, 1, 3, 5];
+// Digits that are read as one number.
+pub enum Decimal {
+    Number(u64),
+    // more than 18 characters, or one that is no digit
+    Other,
+}
+
+// The number that up to 18 digits stand for, which 64 bits hold.
+pub fn decimal_of(s: &[u8]) -> Decimal
+    ensures { λ r. ⌜ r ≡ decimalOf (now (s .entry)) ⌝ }
+{
+    if 18 < s.len() {
+        return Decimal::Other;
+    }
+    let mut n: u64 = 0;
+    let mut i = 0;
+    while i < s.len() {
+        let x = s[i];
+        if is_digit(x) {
+            n = 10 * n + wide_digit(x) as u64;
+            i += 1;
+        } else {
+            return Decimal::Other;
+        }
+    }
+    Decimal::Number(n)
+}
+
+// Whether a text has two check digits, and they are right, if the characters behind them stand for the number `rest`. The
+// remainder is taken twice, and not at each character.
+pub fn checks97_with(s: &[u8], rest: u64) -> bool
+    requires { ⌜ (4 ≤ length (now s)) × (rest ≡ number 0 (drop 4 (now s))) ⌝ }
+    ensures { λ r. ⌜ r ≡ every digit (pair (now (s .entry))) && checks97 (now (s .entry)) ⌝ }
+{
+    if is_digit(s[2]) & is_digit(s[3]) {
+        let p = (10 * wide_digit(s[2]) + wide_digit(s[3])) as u64;
+        let n = extended(extended(rest % 97, s[0]), s[1]);
+        return (2 <= p) & (p <= 98) & ((100 * n + p) % 97 == 1);
+    }
+    false
+}
+
+// The next carry at carry plus digit, twice in a row, so that of a sum below 20 no remainder by 10 is taken.
+const NEXT_CARRY: [u8; 20] = [0, 9, 4, 6, 8, 2, 7, 1, 3, 5, 0, 9, 4, 6, 8, 2, 7, 1, 3, 5];
 
 // What a digit stands for. A byte below the digits counts as 0.
 fn digit_value(x: u8) -> u8
@@ -246,22 +283,27 @@ fn digit_value(x: u8) -> u8
     if x < 48 { 0 } else { x - 48 }
 }
 
-// The carry c after one digit more.
-fn next_carry(c: u8, x: u8) -> u8
-    requires { ⌜ c < 10 ⌝ }
+// The carry c after one digit more. The table is lent, since each function that names a constant array stores it anew.
+fn next_carry(table: &[u8; 20], c: u8, x: u8) -> u8
+    requires { ⌜ (c < 10) × (now table ≡ nextCarry ++ nextCarry) ⌝ }
     ensures { λ r. ⌜ r ≡ getD nextCarry ((c + (x - 48)) % 10) 0 ⌝ }
 {
-    NEXT_CARRY[((c + digit_value(x)) % 10) as usize]
+    let sum = c + digit_value(x);
+    if sum < 20 {
+        return table[sum as usize];
+    }
+    table[(sum % 10) as usize]
 }
 
 // Modulo 10, recursive: the check digit, as a byte, that a run of digits asks for. Under carry 0 it is 0 and not 10.
 pub fn check_digit(s: &[u8]) -> u8
     ensures { λ r. ⌜ r ≡ checkDigit (now (s .entry)) ⌝ }
 {
+    let table = NEXT_CARRY;
     let mut c = 0;
     let mut i = 0;
     while i < s.len() {
-        c = next_carry(c, s[i]);
+        c = next_carry(&table, c, s[i]);
         i += 1;
     }
     48 + (10 - c) % 10

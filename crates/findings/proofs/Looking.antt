@@ -143,3 +143,11 @@ module _ (ls : List Bytes) where
   pub group-passed : {f g : Finding} (rs ss : List Rule) → numbered rs ≡ true → f ≡ finds rs ls → f .number ≡ 0 → g ≡ finds ss ls → g ≡ finds (rs ++ ss) ls
   unfolding finds first
   group-passed rs ss h is z e = rw (groups rs ss, found-nothing rs h (sym (ap (λ g. g .number) is) ∙ z), first) e
+
+  -- the same of a group that was looked at rule after rule
+
+  pub chain-stops : {f : Finding} (rs ss : List Rule) → numbered rs ≡ true → f ≡ looked kept rs ls → (f .number ≡ 0 → ⊥) → f ≡ finds (rs ++ ss) ls
+  chain-stops rs ss h is = group-stops rs ss (is ∙ looked-finds rs ls h)
+
+  pub chain-passed : {f g : Finding} (rs ss : List Rule) → numbered rs ≡ true → f ≡ looked kept rs ls → f .number ≡ 0 → g ≡ finds ss ls → g ≡ finds (rs ++ ss) ls
+  chain-passed rs ss h is = group-passed rs ss h (is ∙ looked-finds rs ls h)

@@ -3,7 +3,8 @@ use girocode::limits;
 use runs::Kind;
 use runs::every;
 use runs::same;
-use text::plain_end;
+use text::Test;
+use text::all;
 ghost use mathlib.Core.Path.{_≡_};
 ghost use Rattle.girocode.specs.Forms.{unreadCoding, bic, iban, whole, fraction, parted, amount, plain};
 
@@ -84,5 +85,5 @@ pub fn amount(s: &[u8]) -> bool
 pub fn plain(s: &[u8]) -> bool
     ensures { λ r. ⌜ r ≡ plain (now (s .entry)) ⌝ }
 {
-    plain_end(s, 0) == s.len()
+    all(Test::Plain, s)
 }

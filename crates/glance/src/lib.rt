@@ -1,5 +1,4 @@
 // Whose account a payload names, at a glance: by its first 37 bytes, and by whether there are more.
-use digits::steps;
 use swiss_rules::account;
 use swiss_rules::header;
 use text::line_at;
@@ -39,8 +38,7 @@ fn look(head: &[u8], more: bool) -> Account
     if found.number != 0 {
         return Account::Unknown;
     }
-    let table = steps();
-    let found = account(&table, &head[fourth_start..fourth_end]);
+    let found = account(&head[fourth_start..fourth_end]);
     let ended = !more | (fourth.next != fourth_end);
     if (found.number == 0) & ended {
         let bytes = fourth_end - fourth_start;

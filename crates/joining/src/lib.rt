@@ -41,11 +41,10 @@ fn first_outside(text: &[u8], list: &[u16], count: usize) -> Outside
     while i < count {
         let start = list[2 * i] as usize;
         let bytes = list[2 * i + 1] as usize;
-        if text.len() < start + bytes {
-            let line = i + 1;
-            return Outside::At(line);
-        }
         i += 1;
+        if text.len() < start + bytes {
+            return Outside::At(i);
+        }
     }
     Outside::Nowhere
 }

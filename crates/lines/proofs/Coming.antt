@@ -1,42 +1,44 @@
 -- The walk, a step at a time: the line that it is in, the breaks that it has passed, and the lines that are noted. Assumes nothing.
-use Prim.Native.Nat.{ℕ, zero, suc, _+_, _-_, _*_, _≤_, _<_}
-use native.Mathlib.Nat.{zero-add, add-zero}
+use Prim.Native.Nat.{ℕ, zero, suc, _+_, _-_, _*_, _%_, _≤_, _<_}
+use native.Mathlib.Nat.{zero-add, add-zero, mod-eq-of-lt}
 use native.Mathlib.Omega.{arith}
-use mathlib.Core.Bool.{Bool, true, false, cond, not, _&&_, and-false}
+use mathlib.Core.Bool.{Bool, true, false, cond, not, _&&_, and-eq-true-iff}
 use mathlib.Core.List.{List, [], _∷_}
 use mathlib.Core.Logic.{_≢_}
 use mathlib.Core.Path.{_≡_, refl, sym, ap, _∙_}
 use lib.Dec.{eqb, ltb}
-use lib.ListN.{length, getD, drop, set}
-use lib.Seq.{drop-drop}
-use borrow.Author.Tests.{eqb-true, eqb-false, ltb-true, ltb-false, eq-eqb, ne-eqb, le-ltb, le-leb}
+use lib.ListN.{length, getD, take, drop, set, length-take, List·getD-eq-default}
+use lib.Seq.{drop-drop, getD-take, getD-drop}
+use borrow.Author.Tests.{eqb-true, eqb-false, ltb-true, ltb-false, ne-eqb, le-ltb, le-leb}
 use Rattle.sieve.specs.declared.Break.{Break}
-use Rattle.sieve.specs.declared.Break.the-variants.{Lf}
+use Rattle.sieve.specs.declared.Break.the-variants.{Lf, CrLf}
 use Rattle.sieve.specs.declared.Charset.{Charset}
-use Rattle.sieve.specs.Bytes.{Bytes}
-use Rattle.sieve.specs.Lines.{breakBytes, cut, breaksOf, kind}
+use Rattle.sieve.specs.declared.Charset.the-variants.{Latin, Iso8859}
+use Rattle.sieve.specs.Bytes.{Bytes, within}
+use Rattle.sieve.specs.Lines.{breakBytes, cut, breaksOf}
 use Rattle.sieve.specs.Characters.{breakWidth}
 use Rattle.sieve.specs.Lawful.{Plain, no-more, one-more}
 use Rattle.sieve.specs.Places.{entries}
-use Rattle.sieve.specs.Latin.{inOne}
+use Rattle.sieve.specs.Latin.{inOne, latin}
 use Rattle.sieve.specs.Charsets.{ofSet}
+use Rattle.sieve.proofs.Bounds.{is-within}
 use Rattle.sieve.proofs.Widths.{width-break}
 use Rattle.sieve.proofs.Charsets.{set-lawful, in-each-set}
 use Rattle.runs.proofs.ByteByByte.{next}
 use Rattle.text.specs.declared.LineAt.{LineAt}
+use Rattle.text.specs.declared.Test.the-variants.{PlainOrDelete, NoDelete}
 use Rattle.text.specs.Results.{IsLineAt}
 use Rattle.text.specs.LinesIn.{linesIn}
-use Rattle.text.specs.Runs.{run}
-use Rattle.text.proofs.Runs.{goes-on}
+use Rattle.text.specs.Runs.{passing, run, accents, inRow}
+use Rattle.text.proofs.Accents.{row-goes-on, accent-width}
+use Rattle.text.proofs.Runs.{goes-on, in-run}
 use Rattle.text.proofs.FirstLine.{stops, ends}
-use Rattle.text.proofs.LinesAt.{within}
-use Rattle.lines.specs.declared.BreaksPassed.{BreaksPassed}
-use Rattle.lines.specs.declared.Parted.{Parted}
-use Rattle.lines.specs.declared.Parted.the-variants.{Alike, Unlike}
+use Rattle.text.proofs.LinesAt.{within as line-within}
+use Rattle.lines.specs.declared.Passed.{Passed}
 use Rattle.lines.specs.Listed.{capacity, room, greatest, listed, listedOf, Filled}
-use Rattle.lines.specs.Walking.{ofWidth, breaksIn, heldBy, partedBy, noted}
-use Rattle.lines.proofs.Stepping.{Come, starts, over-character, over-break}
-use Rattle.lines.proofs.Parting.{partedFrom, no-more as none-more, alike, unlike, from-first, unbroken, broken}
+use Rattle.lines.specs.Walking.{returnsIn, ofWidth, noted, onePassed, IsPassed, IsListed}
+use Rattle.lines.proofs.Stepping.{Come, starts, few, over-character, over-break}
+use Rattle.lines.proofs.Parting.{unbroken, broken}
 use Rattle.lines.proofs.Listing.{filled-more, filled-all}
 
 -- bytes that are neither CR nor LF are of the line
@@ -45,8 +47,19 @@ unfolding cut
 plain-first no-more = sym (zero-add _)
 plain-first (one-more {x = x} a b p) = rw (ne-eqb x 10 a, ne-eqb x 13 b) (omega (arith, plain-first p))
 
+not-true : (b : Bool) → not b ≡ true → b ≡ false
+not-true true h = sym h
+not-true false h = refl
+
+-- 20 to 7F is a character by itself, if it is not DEL
+not-delete : (x : ℕ) → within 0x20 0x7F x ≡ true → not (eqb x 0x7F) ≡ true → inOne x ≡ true
+not-delete x h k =
+    let (low, high) = is-within 0x20 0x7F x h in
+    let other = eqb-false x 0x7F (not-true (eqb x 0x7F) k) in
+    rw (le-leb 0x20 x low, le-leb x 0x7E (omega arith))
+
 -- a byte that is a character by itself
-pub by-itself : (set : Charset) (s : Bytes) (at : ℕ) → at < length s → inOne (getD s at 0) ≡ true → 1 ≡ ofSet set (drop at s)
+by-itself : (set : Charset) (s : Bytes) (at : ℕ) → at < length s → inOne (getD s at 0) ≡ true → 1 ≡ ofSet set (drop at s)
 by-itself set s at h e = rw (next s at h) (sym (in-each-set set (getD s at 0) _ e))
 
 -- LF is no character, and a break by itself
@@ -54,38 +67,30 @@ pub line-feed : (set : Charset) (s : Bytes) (at : ℕ) → at < length s → get
 unfolding breakWidth
 line-feed set s at h e = (rw (next s at h, e) (width-break (ofSet set) (set-lawful set) Lf (drop (at + 1) s)), rw (next s at h, e))
 
--- how the lines are parted, if these breaks come behind n - 1 others
-abbrev heldFrom : BreaksPassed → ℕ → List Break → Parted
-heldFrom passed n ks = cond (eqb (passed .unlike) 0) (partedFrom (cond (eqb (passed .first) 0) (kind ks) (ofWidth (passed .first))) n ks) (Unlike (passed .unlike))
-
--- a width is that of a break, or of none
-abbrev Wide : ℕ → Type 0
-Wide b = b ≢ 0 → length (breakBytes (ofWidth b)) ≡ b
-
--- one break more
-one-held : (passed : BreaksPassed) (b n : ℕ) (ks : List Break) → Wide (passed .first) → Wide b → b ≢ 0 → n ≢ 0 → heldFrom passed n (ofWidth b ∷ ks) ≡ heldFrom (heldBy passed b n) (n + 1) ks
-one-held passed b n ks wide w h m = go (eqb (passed .unlike) 0) (eqb (passed .first) 0) (eqb b (passed .first)) refl refl refl
+-- so is CR with LF after it
+pub carriage-return : (set : Charset) (s : Bytes) (at : ℕ) → at < length s → eqb (getD s at 0) 13 && eqb (getD (drop at s) 1 0) 10 ≡ true → (at + 2 ≤ length s) × ((ofSet set (drop at s) ≡ 0) × (2 ≡ breakWidth (drop at s)))
+unfolding breakWidth
+carriage-return set s at h e =
+    let (p, q) = and-eq-true-iff _ _ .0 e in
+    let first = eqb-true (getD s at 0) 13 p in
+    let second = rw getD-drop at (eqb-true (getD (drop at s) 1 0) 10 q) in
+    let there : at + 1 < length s = inside s (at + 1) (λ z. let n : _≡_ {A = ℕ} 10 0 = sym second ∙ z in absurd (omega arith)) in
+    let two : drop at s ≡ 13 ∷ 10 ∷ drop (at + 1 + 1) s = next s at h ∙ rw (first, next s (at + 1) there, second) refl in
+    (omega arith, (rw two (width-break (ofSet set) (set-lawful set) CrLf (drop (at + 1 + 1) s)), rw two))
   where
-    go : (u f d : Bool) → eqb (passed .unlike) 0 ≡ u → eqb (passed .first) 0 ≡ f → eqb b (passed .first) ≡ d → heldFrom passed n (ofWidth b ∷ ks) ≡ heldFrom (heldBy passed b n) (n + 1) ks
-    go true true d p q r = rw (p, q, p, ne-eqb b 0 h) (alike (ofWidth b) n ks)
-    go false true d p q r = rw (p, q, p)
-    go true false true p q r = rw (p, q, r, p, q, ← eqb-true b (passed .first) r) (alike (ofWidth b) n ks)
-    go true false false p q r =
-        rw (p, q, r, ne-eqb n 0 m)
-        (unlike _ n (ofWidth b) ks (λ e. eqb-false _ _ r (sym (w h) ∙ ap (λ (j : Break). length (breakBytes j)) e ∙ wide (eqb-false _ _ q))))
-    go false false d p q r = rw (p, q, p)
+    inside : (s : Bytes) (i : ℕ) → getD s i 0 ≢ 0 → i < length s
+    inside s i k = go (ltb i (length s)) refl
+      where
+        go : (b : Bool) → ltb i (length s) ≡ b → i < length s
+        go true f = ltb-true _ _ f
+        go false f = absurd (k (List·getD-eq-default s 0 (ltb-false _ _ f)))
 
--- a break that is like the first changes nothing
-pub like-first : (passed : BreaksPassed) (b n : ℕ) → b ≢ 0 → b ≡ passed .first → passed ≡ heldBy passed b n
-like-first passed b n h e = rw (ne-eqb (passed .first) 0 (λ z. h (e ∙ z)), eq-eqb b (passed .first) e, and-false)
-
--- no break more
-all-held : (passed : BreaksPassed) (n : ℕ) → heldFrom passed n [] ≡ partedBy passed n
-all-held passed n = ap (λ (x : Parted). cond (eqb (passed .unlike) 0) x (Unlike (passed .unlike))) (none-more _ n ∙ ap (λ (j : Break). Alike j n) (go (eqb (passed .first) 0) refl))
-  where
-    go : (f : Bool) → eqb (passed .first) 0 ≡ f → cond f (kind []) (ofWidth (passed .first)) ≡ ofWidth (passed .first)
-    go true e = rw (eqb-true (passed .first) 0 e)
-    go false e = refl
+-- what is neither begins no break
+pub no-break : (s : Bytes) (at : ℕ) → getD s at 0 ≢ 10 → eqb (getD s at 0) 13 && eqb (getD (drop at s) 1 0) 10 ≡ false → breakWidth (drop at s) ≡ 0
+unfolding breakWidth
+no-break s at h e =
+    let first : getD (drop at s) 0 0 ≡ getD s at 0 = getD-drop at s 0 0 ∙ ap (λ (n : ℕ). getD s n 0) (add-zero at) in
+    rw (first, ne-eqb (getD s at 0) 10 h, e)
 
 few-listed : (n : ℕ) → n ≤ capacity → listedOf n ≡ n
 few-listed n h = go (ltb n capacity) refl
@@ -106,8 +111,10 @@ module _ (s : Bytes) (l : List ℕ) (start feeds : ℕ) (size : length l ≡ roo
       go : (b : Bool) → ltb feeds capacity ≡ b → Filled s (noted l feeds start (r .end - start)) (r .next) (listedOf (feeds + 1))
       go true few =
           let next = few-listed (feeds + 1) (omega (arith, ltb-true feeds capacity few)) in
-          let end = within s start r is h in
-          rw (next, few, le-leb start greatest (omega arith), le-leb (r .end - start) greatest (omega (arith, is .next)))
+          let end = line-within s start r is h in
+          let at : start % 65536 ≡ start = mod-eq-of-lt (omega arith) in
+          let size-is : (r .end - start) % 65536 ≡ r .end - start = mod-eq-of-lt (omega (arith, is .next)) in
+          rw (next, few, at, size-is)
           (filled-more s l start feeds r is h (ltb-true _ _ few) size (rw few at e))
       go false many =
           let next = many-listed (feeds + 1) (omega (arith, ltb-false feeds capacity many)) in
@@ -125,31 +132,39 @@ one-absent s l i h size e =
 pub all-listed : (s : Bytes) (l : List ℕ) (at i : ℕ) → capacity ≤ i → length l ≡ room → Filled s l at (listedOf i) → l ≡ listed s
 all-listed s l at i h size e = filled-all s l at capacity (omega arith) (omega arith) size (rw (many-listed i h) at e)
 
+-- how many of some breaks are CR LF, if one comes before them
+returns-more : (k : Break) (ks : List Break) → returnsIn (k ∷ ks) ≡ length (breakBytes k) - 1 + returnsIn ks
+unfolding returnsIn
+returns-more Lf ks = sym (zero-add _)
+returns-more CrLf ks = omega arith
+
 -- where the walk has come to
-pub record Here (set : Charset) (s : Bytes) (l : List ℕ) (at start feeds : ℕ) (passed : BreaksPassed) : Type 0 where
-  pub come : Come set s at feeds
-  pub before : start ≤ at
-  pub line : start + length (cut (drop start s) .first) ≡ at + length (cut (drop at s) .first)
-  pub breaks : breaksIn s ≡ heldFrom passed (feeds + 1) (breaksOf (cut (drop start s)))
-  pub wide : Wide (passed .first)
-  pub listed : length s ≤ greatest → Filled s l start (listedOf feeds)
+pub record Here (set : Charset) (s : Bytes) (l : List ℕ) (at : ℕ) (passed : Passed) : Type 0 where
+  pub come : Come set s at (passed .feeds)
+  pub before : passed .start ≤ at
+  pub line : passed .start + length (cut (drop (passed .start) s) .first) ≡ at + length (cut (drop at s) .first)
+  pub feeds : length (breaksOf (cut s)) ≡ passed .feeds + length (breaksOf (cut (drop (passed .start) s)))
+  pub returns : returnsIn (breaksOf (cut s)) ≡ passed .returns + returnsIn (breaksOf (cut (drop (passed .start) s)))
+  pub fewer : passed .returns ≤ at
+  pub listed : length s ≤ greatest → Filled s l (passed .start) (listedOf (passed .feeds))
 
 -- it starts at the first byte, whatever the list that is lent holds
-pub begins : (set : Charset) (s : Bytes) (l : List ℕ) → Here set s l 0 0 0 (record { first = 0; unlike = 0 })
+pub begins : (set : Charset) (s : Bytes) (l : List ℕ) → Here set s l 0 (record { feeds = 0; returns = 0; start = 0 })
 unfolding listed linesIn
-begins set s l = record { come = starts set s; before = omega arith; line = refl; breaks = from-first s; wide = λ h. absurd (h refl); listed = λ h. refl }
+begins set s l = record { come = starts set s; before = omega arith; line = refl; feeds = sym (zero-add _); returns = sym (zero-add _); fewer = omega arith; listed = λ h. refl }
 
-module _ (set : Charset) (s : Bytes) (l : List ℕ) (at start feeds : ℕ) (passed : BreaksPassed) (here : Here set s l at start feeds passed) where
+module _ (set : Charset) (s : Bytes) (l : List ℕ) (at : ℕ) (passed : Passed) (here : Here set s l at passed) where
   -- a character is passed
-  pub character : (n : ℕ) → n ≡ ofSet set (drop at s) → n ≢ 0 → Here set s l (at + n) start feeds passed
+  pub character : (n : ℕ) → n ≡ ofSet set (drop at s) → n ≢ 0 → Here set s l (at + n) passed
   character n e h =
       let plain = rw (← e, drop-drop n at s) at (plain-first (set-lawful set .plain (drop at s))) in
       record {
-        come = over-character set s at feeds (here .come) n e h;
+        come = over-character set s at (passed .feeds) (here .come) n e h;
         before = omega (arith, here .before);
         line = omega (arith, here .line, plain);
-        breaks = here .breaks;
-        wide = here .wide;
+        feeds = here .feeds;
+        returns = here .returns;
+        fewer = omega (arith, here .fewer);
         listed = here .listed;
       }
 
@@ -158,49 +173,88 @@ module _ (set : Charset) (s : Bytes) (l : List ℕ) (at start feeds : ℕ) (pass
     abbrev found : LineAt
     found = record { end = at; next = at + b }
 
-    is-line : IsLineAt s start found
+    is-line : IsLineAt s (passed .start) found
     is-line = record { end = omega (arith, here .line, stops s at in-bytes (rw (← e) h)); next = ap (λ (n : ℕ). at + n) e }
 
     width-is : at + b - at ≡ b
     width-is = omega arith
 
-    its-break : (breaksOf (cut (drop start s)) ≡ ofWidth b ∷ breaksOf (cut (drop (at + b) s))) × (length (breakBytes (ofWidth b)) ≡ b)
-    its-break = let r = broken s start found is-line (λ w. h (sym width-is ∙ w)) in (rw width-is at (r .breaks), rw width-is at (r .width))
+    its-break : (breaksOf (cut (drop (passed .start) s)) ≡ ofWidth b ∷ breaksOf (cut (drop (at + b) s))) × (length (breakBytes (ofWidth b)) ≡ b)
+    its-break = let r = broken s (passed .start) found is-line (λ w. h (sym width-is ∙ w)) in (rw width-is at (r .breaks), rw width-is at (r .width))
 
-    still-wide : Wide (heldBy passed b (feeds + 1) .first)
-    still-wide = go (eqb (passed .first) 0) (eqb (passed .unlike) 0 && not (eqb b (passed .first)))
-      where
-        go : (f d : Bool) → Wide ((cond f (record { first = b; unlike = passed .unlike }) (cond d (record { first = passed .first; unlike = feeds + 1 }) passed)) .first)
-        go true d w = its-break .1
-        go false true w = here .wide w
-        go false false w = here .wide w
+    pub a-break-passed : Here set s (noted l (passed .feeds) (passed .start) (at - passed .start)) (at + b) (onePassed passed at b)
+    a-break-passed =
+        let (more, width) = its-break in
+        record {
+          come = over-break set s at (passed .feeds) (here .come) b z e h;
+          before = omega arith;
+          line = refl;
+          feeds = here .feeds ∙ ap (λ (ks : List Break). passed .feeds + length ks) more ∙ omega arith;
+          returns = here .returns ∙ ap (λ (ks : List Break). passed .returns + returnsIn ks) more ∙ rw (returns-more (ofWidth b) _, width) (omega arith);
+          fewer = omega (arith, here .fewer);
+          listed = λ short. one-noted s l (passed .start) (passed .feeds) size found is-line (omega (arith, here .before)) short (here .listed short);
+        }
 
-    pub a-break-passed : Here set s (noted l feeds start (at - start)) (at + b) (at + b) (feeds + 1) (heldBy passed b (feeds + 1))
-    a-break-passed = record {
-      come = over-break set s at feeds (here .come) b z e h;
-      before = omega arith;
-      line = refl;
-      breaks = here .breaks ∙ ap (heldFrom passed (feeds + 1)) (its-break .0) ∙ one-held passed b (feeds + 1) _ (here .wide) (λ w. its-break .1) h (λ w. omega arith);
-      wide = still-wide;
-      listed = λ short. one-noted s l start feeds size found is-line (omega (arith, here .before)) short (here .listed short);
+  -- nothing is left: all lines but the last were passed, and that ends with the bytes
+  module _ (h : length s ≤ at) where
+    none-left : breaksOf (cut (drop (passed .start) s)) ≡ []
+    none-left =
+        let (first-none, width-none) = ends s at h in
+        let r : LineAt = record { end = at; next = at } in
+        let is : IsLineAt s (passed .start) r = record { end = omega (arith, here .line); next = omega arith } in
+        unbroken s (passed .start) r is (omega arith)
+
+    feeds-fit : passed .feeds ≤ length s
+    feeds-fit = omega (arith, few _ _ _ _ (here .come), here .come .within)
+
+    pub all-passed : IsPassed s passed
+    unfolding returnsIn
+    all-passed = record {
+      fits = feeds-fit;
+      feeds = sym (here .feeds ∙ rw none-left (add-zero _));
+      returns = sym (here .returns ∙ rw none-left (add-zero _));
     }
 
-  -- nothing is left
-  pub all-passed : length s ≤ at → partedBy passed (feeds + 1) ≡ breaksIn s
-  all-passed h =
-      let (first-none, width-none) = ends s at h in
-      let r : LineAt = record { end = at; next = at } in
-      let is : IsLineAt s start r = record { end = omega (arith, here .line); next = omega arith } in
-      sym (here .breaks ∙ ap (heldFrom passed (feeds + 1)) (unbroken s start r is (omega arith)) ∙ all-held passed (feeds + 1))
+    pub all-listed-so-far : IsListed s passed l
+    all-listed-so-far = record {
+      fits = feeds-fit;
+      start = omega (arith, here .before, here .come .within);
+      last = omega (arith, here .line, ends s at h .0, here .come .within);
+      filled = here .listed;
+    }
 
-  -- the last line ends with the bytes
-  pub line-ends : length s ≤ at → start + length (cut (drop start s) .first) ≡ length s
-  line-ends h = omega (arith, here .line, ends s at h .0, here .come .within)
-
--- a run of characters by themselves is passed
-pub run-passed : (set : Charset) (s : Bytes) (l : List ℕ) (at start feeds : ℕ) (passed : BreaksPassed) (n : ℕ) → run inOne (drop at s) ≡ n → Here set s l at start feeds passed → Here set s l (at + n) start feeds passed
-run-passed set s l at start feeds passed zero e here = rw add-zero here
-run-passed set s l at start feeds passed (suc n) e here =
-    let (h, one, more) = goes-on inOne s at n e in
+-- a run of characters by themselves is passed: among bytes before the first DEL, 20 to 7F are those
+pub run-passed : (set : Charset) (s : Bytes) (l : List ℕ) (at : ℕ) (passed : Passed) (end n : ℕ) → end ≡ run (passing NoDelete) s → run (passing PlainOrDelete) (drop at (take end s)) ≡ n → Here set s l at passed → Here set s l (at + n) passed
+run-passed set s l at passed end zero d e here = rw add-zero here
+run-passed set s l at passed end (suc n) d e here =
+    let (h, one, more) = goes-on (passing PlainOrDelete) (take end s) at n e in
+    let before : at < end = omega (arith, length-take end s) in
+    let there : at < length s = omega (arith, length-take end s) in
+    let plain = not-delete (getD s at 0) (rw (getD-take end s at 0 before) at one) (in-run (passing NoDelete) at s (omega arith)) in
     let q : at + suc n ≡ at + 1 + n = omega arith in
-    rw q (run-passed set s l (at + 1) start feeds passed n more (character set s l at start feeds passed here 1 (by-itself set s at h one) (λ z. omega arith)))
+    rw q (run-passed set s l (at + 1) passed end n d more (character set s l at passed here 1 (by-itself set s at there plain) (λ z. omega arith)))
+
+-- a row of umlauts and accents is passed
+accents-passed : (s : Bytes) (l : List ℕ) (at : ℕ) (passed : Passed) (n : ℕ) → accents (drop at s) ≡ n → Here Latin s l at passed → Here Latin s l (at + 2 * n) passed
+accents-passed s l at passed zero e here = rw add-zero here
+accents-passed s l at passed (suc n) e here =
+    let (h, one, more) = row-goes-on s at n e in
+    let q : at + 2 * suc n ≡ at + 2 + 2 * n = omega arith in
+    rw q (accents-passed s l (at + 2) passed n more (character Latin s l at passed here 2 (sym (accent-width s at h one)) (λ z. omega arith)))
+
+-- what is told of a row at a place is passed, or is that no character begins there
+pub row-passed : (set : Charset) (s : Bytes) (l : List ℕ) (at : ℕ) (passed : Passed) (n : ℕ) → n ≡ inRow set (drop at s) → n ≢ 0 → Here set s l at passed → Here set s l (at + n) passed
+row-passed Iso8859 s l at passed n e h here = character Iso8859 s l at passed here n e h
+row-passed Latin s l at passed n e h here = go (eqb (accents (drop at s)) 0) refl
+  where
+    go : (b : Bool) → eqb (accents (drop at s)) 0 ≡ b → Here Latin s l (at + n) passed
+    go true q = character Latin s l at passed here n (rw q at e) h
+    go false q = rw (rw q at e) (accents-passed s l at passed (accents (drop at s)) refl here)
+
+pub no-row : (set : Charset) (t : Bytes) → inRow set t ≡ 0 → ofSet set t ≡ 0
+no-row Iso8859 t e = e
+no-row Latin t e = go (eqb (accents t) 0) refl
+  where
+    go : (b : Bool) → eqb (accents t) 0 ≡ b → latin t ≡ 0
+    go true q = rw q at e
+    go false q = let p = rw q at e in absurd (eqb-false (accents t) 0 q (omega arith))

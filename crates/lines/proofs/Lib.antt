@@ -1,5 +1,7 @@
 pub mod Stepping
 pub mod Parting
+pub mod Holding
+pub mod Counting
 pub mod Listing
 pub mod Coming
 pub mod Listed

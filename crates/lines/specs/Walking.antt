@@ -1,10 +1,10 @@
 -- What one walk over any bytes tells. Assumes nothing.
-use Prim.Native.Nat.{ℕ, _+_, _*_, _≤_}
+use Prim.Native.Nat.{ℕ, suc, _+_, _-_, _*_, _%_, _^_, _≤_, _<_}
 use mathlib.Core.Bool.{cond, not, _&&_}
-use mathlib.Core.List.{List}
+use mathlib.Core.List.{List, [], _∷_}
 use mathlib.Core.Option.{Option, some, none}
 use mathlib.Core.Path.{_≡_}
-use lib.Dec.{eqb, ltb, leb}
+use lib.Dec.{eqb, ltb}
 use lib.ListN.{length, take, drop, set, replicate}
 use Rattle.sieve.specs.declared.Break.{Break}
 use Rattle.sieve.specs.declared.Break.the-variants.{Lf, CrLf}
@@ -16,6 +16,7 @@ use Rattle.lines.specs.declared.Walked.the-variants.{Clean, Bad}
 use Rattle.lines.specs.declared.Parted.{Parted}
 use Rattle.lines.specs.declared.Parted.the-variants.{Alike, Unlike}
 use Rattle.lines.specs.declared.BreaksPassed.{BreaksPassed}
+use Rattle.lines.specs.declared.Passed.{Passed}
 use Rattle.lines.specs.declared.Came.{Came}
 use Rattle.lines.specs.declared.Told.{Told}
 use Rattle.lines.specs.Listed.{capacity, room, greatest, listedShort, listedOf, Filled}
@@ -46,6 +47,12 @@ pub record IsTold (s : Bytes) (o : Option ℕ) (r : Told) (after : List ℕ) : T
 
 -- on the way
 
+-- how many of some breaks are CR LF
+unfoldable pub returnsIn : List Break → ℕ
+returnsIn [] = 0
+returnsIn (Lf ∷ ks) = returnsIn ks
+returnsIn (CrLf ∷ ks) = suc (returnsIn ks)
+
 -- the breaks that were passed, and one more, which ends line n
 abbrev pub heldBy : BreaksPassed → ℕ → ℕ → BreaksPassed
 heldBy passed b n = cond (eqb (passed .first) 0) (record { first = b; unlike = passed .unlike }) (cond (eqb (passed .unlike) 0 && not (eqb b (passed .first))) (record { first = passed .first; unlike = n }) passed)
@@ -54,14 +61,35 @@ heldBy passed b n = cond (eqb (passed .first) 0) (record { first = b; unlike = p
 abbrev pub partedBy : BreaksPassed → ℕ → Parted
 partedBy passed n = cond (eqb (passed .unlike) 0) (Alike (ofWidth (passed .first)) n) (Unlike (passed .unlike))
 
--- a list in which a line is noted behind n others, if it is among those that are listed
+-- a list in which a line is noted behind n others, if it is among those that are listed: of each number, 16 bits
 abbrev pub noted : List ℕ → ℕ → ℕ → ℕ → List ℕ
-noted l n start bytes = cond (ltb n capacity && leb start greatest && leb bytes greatest) (set (set l (2 * n) start) (2 * n + 1) bytes) l
+noted l n start bytes = cond (ltb n capacity) (set (set l (2 * n) (start % 65536)) (2 * n + 1) (bytes % 65536)) l
 
--- the walk's end: where nothing is bad, how the lines are parted, and the list of all but the last
+-- the lines that were passed, and one more, ended by a break of this width at a place
+abbrev pub onePassed : Passed → ℕ → ℕ → Passed
+onePassed passed at width = record { feeds = passed .feeds + 1; returns = passed .returns + (width - 1); start = at + width }
+
+-- its numbers fit
+pub record Passable (passed : Passed) (at width : ℕ) : Type 0 where
+  pub feeds : passed .feeds ≤ at
+  pub returns : passed .returns ≤ at
+  pub wide : 1 ≤ width
+  pub fits : at + width < 2 ^ 64
+
+-- all lines but the last were passed: as many as there are breaks
+pub record IsPassed (s : Bytes) (passed : Passed) : Type 0 where
+  pub fits : passed .feeds ≤ length s
+  pub feeds : passed .feeds ≡ length (breaksOf (cut s))
+  pub returns : passed .returns ≡ returnsIn (breaksOf (cut s))
+
+-- and they are in the list
+pub record IsListed (s : Bytes) (passed : Passed) (places : List ℕ) : Type 0 where
+  pub fits : passed .feeds ≤ length s
+  pub start : passed .start ≤ length s
+  pub last : passed .start + length (cut (drop (passed .start) s) .first) ≡ length s
+  pub filled : length s ≤ greatest → Filled s places (passed .start) (listedOf (passed .feeds))
+
+-- the walk's end: where nothing is bad, the lines that were passed, and the list of them
 pub record IsCame (s : Bytes) (r : Came) (places : List ℕ) : Type 0 where
-  pub start : r .start ≤ length s
-  pub fits : r .feeds ≤ length s
-  pub parted : r .walked ≡ Clean → partedBy (r .breaks) (r .feeds + 1) ≡ breaksIn s
-  pub last : r .walked ≡ Clean → r .start + length (cut (drop (r .start) s) .first) ≡ length s
-  pub filled : r .walked ≡ Clean → length s ≤ greatest → Filled s places (r .start) (listedOf (r .feeds))
+  pub passed : r .walked ≡ Clean → IsPassed s (r .passed)
+  pub listed : r .walked ≡ Clean → IsListed s (r .passed) places

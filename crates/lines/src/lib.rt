@@ -1,10 +1,11 @@
 // The walk over a payload: its characters, its breaks, and where its lines lie; and each line, by the list of places.
 use sieve::Break;
 use sieve::Charset;
-use text::break_width;
-use text::in_one;
+use text::characters_in;
+use text::feed_after;
+use text::first_delete;
+use text::line_at;
 use text::plain_end;
-use text::width_in;
 ghost use mathlib.Core.Path.{_≡_};
 ghost use Prim.Native.Nat.{_≤_};
 ghost use lib.ListN.{length, replicate};
@@ -13,7 +14,8 @@ ghost use Rattle.sieve.specs.Rules.{line};
 ghost use Rattle.sieve.specs.Characters.{badPlace};
 ghost use Rattle.sieve.specs.Charsets.{ofSet};
 ghost use Rattle.lines.specs.Listed.{capacity, room, greatest, listed, listedShort, listedOf, Filled};
-ghost use Rattle.lines.specs.Walking.{walked, ofWidth, partedBy, noted, heldBy, IsCame, IsTold};
+ghost use Rattle.lines.specs.Walking.{walked, breaksIn, ofWidth, partedBy, noted, heldBy, onePassed};
+ghost use Rattle.lines.specs.Walking.{Passable, IsPassed, IsListed, IsCame, IsTold};
 
 // How many lines the list has room for.
 pub const CAPACITY: usize = 34;
@@ -48,12 +50,18 @@ struct BreaksPassed {
     unlike: usize,
 }
 
-// Where the walk has come to: what it found, the breaks that it passed and how many, and where the last line starts.
+// The lines that the walk has passed: the breaks that ended them, how many of these are CR LF, and where the next line
+// starts.
+struct Passed {
+    feeds: usize,
+    returns: usize,
+    start: usize,
+}
+
+// Where the walk has come to: what it found, and the lines that it passed.
 struct Came {
     walked: Walked,
-    breaks: BreaksPassed,
-    feeds: usize,
-    start: usize,
+    passed: Passed,
 }
 
 const NO_BREAKS: BreaksPassed = BreaksPassed {
@@ -86,67 +94,83 @@ pub fn clear(places: &mut [u16; 68])
     *places = [0; 68];
 }
 
-// Notes a line behind n others, where it is among the lines that are listed. The list comes as a slice, since a proof
-// learns how many numbers an array has where the array is lent as one.
+// Notes a line behind n others, where it is among the lines that are listed. Of longer numbers 16 bits are noted. The
+// list comes as a slice, since a proof learns how many numbers an array has where the array is lent as one.
 fn note(places: &mut [u16], n: usize, start: usize, bytes: usize)
     requires { ⌜ length (now places) ≡ room ⌝ }
     ensures { λ _. ⌜ now (places .exit) ≡ noted (now (places .entry)) n start bytes ⌝ }
 {
-    if (n < CAPACITY) & (start <= GREATEST) & (bytes <= GREATEST) {
-        places[2 * n] = start as u16;
-        places[2 * n + 1] = bytes as u16;
+    if n < CAPACITY {
+        places[2 * n] = (start % 65536) as u16;
+        places[2 * n + 1] = (bytes % 65536) as u16;
     }
 }
 
+// A line of so many bytes is passed, and the break at `at` that ends it.
+fn pass(places: &mut [u16], passed: Passed, bytes: usize, at: usize, width: usize) -> Passed
+    requires { ⌜ (length (now places) ≡ room) × Passable passed at width ⌝ }
+    ensures { λ r. ⌜ r ≡ onePassed passed at width ⌝ }
+    ensures { λ _. ⌜ now (places .exit) ≡ noted (now (places .entry)) (passed .feeds) (passed .start) bytes ⌝ }
+{
+    note(places, passed.feeds, passed.start, bytes);
+    Passed {
+        feeds: passed.feeds + 1,
+        returns: passed.returns + (width - 1),
+        start: at + width,
+    }
+}
+
+const NONE_PASSED: Passed = Passed {
+    feeds: 0,
+    returns: 0,
+    start: 0,
+};
+
 // Walks line by line, and in each line character by character, to the first place where neither a character nor a
-// break begins. What ends a line is one LF, alone or after CR, so the lines are counted by their LF. Most characters are
-// 20 to 7E, one byte in each set, and are passed run by run; most breaks are LF, and like the first one.
+// break begins. What ends a line is one LF, alone or after CR. Most characters are 20 to 7E, one byte in each set, and are
+// passed run by run; DEL, which begins nothing, is looked for before, so that the run need not ask for it. Most breaks are
+// LF, and many lines are empty: that is asked first.
 fn come(s: &[u8], set: Charset, places: &mut [u16; 68]) -> Came
     ensures { λ r. ⌜ r .walked ≡ walked (now (s .entry)) (badPlace (ofSet set) (now (s .entry))) ⌝ }
     ensures { λ r. ⌜ IsCame (now (s .entry)) r (now (places .exit)) ⌝ }
 {
+    let end = first_delete(s);
+    let head = &s[0..end];
     let mut at = 0;
-    let mut start = 0;
-    let mut feeds = 0;
-    let mut breaks = NO_BREAKS;
+    let mut passed = NONE_PASSED;
     let mut walked = Walked::Clean;
     'lines: while at < s.len() {
+        if s[at] == 10 {
+            passed = pass(places, passed, 0, at, 1);
+            at += 1;
+            continue;
+        }
         while at < s.len() {
+            at = plain_end(head, at);
+            if at == s.len() {
+                break 'lines;
+            }
             let x = s[at];
-            if in_one(x) {
-                at = plain_end(s, at + 1);
-                continue;
+            if x == 10 {
+                passed = pass(places, passed, at - passed.start, at, 1);
+                at += 1;
+                break;
             }
-            let mut b = 1;
-            if x != 10 {
-                let n = width_in(set, s, at);
-                if n != 0 {
-                    at += n;
-                    continue;
-                }
-                b = break_width(s, at);
-                if b == 0 {
-                    let line = 1 + feeds;
-                    walked = Walked::Bad(line, at);
-                    break 'lines;
-                }
+            if (x == 13) & feed_after(s, at) {
+                passed = pass(places, passed, at - passed.start, at, 2);
+                at += 2;
+                break;
             }
-            note(places, feeds, start, at - start);
-            feeds += 1;
-            if b != breaks.first {
-                breaks = held(breaks, b, feeds);
+            let n = characters_in(set, s, at);
+            if n == 0 {
+                let line = 1 + passed.feeds;
+                walked = Walked::Bad(line, at);
+                break 'lines;
             }
-            at += b;
-            start = at;
-            break;
+            at += n;
         }
     }
-    Came {
-        walked,
-        breaks,
-        feeds,
-        start,
-    }
+    Came { walked, passed }
 }
 
 // The kind of a break, by its width.
@@ -167,6 +191,42 @@ fn parted_by(breaks: BreaksPassed, n: usize) -> Parted
     Parted::Unlike(unlike)
 }
 
+// How the lines of any bytes are parted, break after break.
+fn parts(s: &[u8]) -> Parted
+    ensures { λ r. ⌜ r ≡ breaksIn (now (s .entry)) ⌝ }
+{
+    let mut breaks = NO_BREAKS;
+    let mut at = 0;
+    let mut n = 1;
+    loop {
+        let line = line_at(s, at);
+        let end = line.end;
+        let next = line.next;
+        if next == end {
+            return parted_by(breaks, n);
+        }
+        breaks = held(breaks, next - end, n);
+        at = next;
+        n += 1;
+    }
+}
+
+// The same of lines that were passed, by their number where that is enough: none of the breaks is CR LF, or each is. Only
+// in bytes that are refused is the first unlike one looked for.
+fn counted(s: &[u8], passed: Passed) -> Parted
+    requires { ⌜ IsPassed (now s) passed ⌝ }
+    ensures { λ r. ⌜ r ≡ breaksIn (now (s .entry)) ⌝ }
+{
+    let lines = passed.feeds + 1;
+    if passed.returns == 0 {
+        return Parted::Alike(Break::Lf, lines);
+    }
+    if passed.returns == passed.feeds {
+        return Parted::Alike(Break::CrLf, lines);
+    }
+    parts(s)
+}
+
 // The rest of a list in which n lines are noted: an absent line gets the count of all bytes and 0.
 fn list_absent(s: &[u8], places: &mut [u16], n: usize)
     requires { ⌜ (length (now s) ≤ greatest) × (length (now places) ≡ room) ⌝ }
@@ -183,16 +243,16 @@ fn list_absent(s: &[u8], places: &mut [u16], n: usize)
 }
 
 // The list of bytes of which none is bad: their last line ends with them. 16 bits do not count more than GREATEST.
-fn list(s: &[u8], came: Came, places: &mut [u16; 68])
-    requires { ⌜ IsCame (now s) came (now places) × (came .walked ≡ Walked.Clean) ⌝ }
+fn list(s: &[u8], passed: Passed, places: &mut [u16; 68])
+    requires { ⌜ IsListed (now s) passed (now places) ⌝ }
     ensures { λ _. ⌜ now (places .exit) ≡ listedShort (now (s .entry)) ⌝ }
 {
     if GREATEST < s.len() {
         clear(places);
         return;
     }
-    let start = came.start;
-    let feeds = came.feeds;
+    let start = passed.start;
+    let feeds = passed.feeds;
     note(places, feeds, start, s.len() - start);
     list_absent(s, places, feeds + 1);
 }
@@ -213,12 +273,11 @@ pub fn walk(s: &[u8], set: Charset, places: &mut [u16; 68]) -> Told
             }
         }
         Walked::Clean => {
-            let breaks = came.breaks;
-            let lines = came.feeds + 1;
-            list(s, came, places);
+            let passed = came.passed;
+            list(s, passed, places);
             Told {
                 walked: Walked::Clean,
-                parted: parted_by(breaks, lines),
+                parted: counted(s, passed),
             }
         }
     }

@@ -16,8 +16,9 @@ use Rattle.swiss.specs.Forms.{iban, qrIban}
 use Rattle.sieve.specs.Only.{Only}
 use Rattle.sieve.specs.Pairs.{twoDigits}
 use Rattle.sieve.proofs.Bounds.{same-is}
+use Rattle.runs.proofs.Parts.{every-append}
 use Rattle.numbers.specs.Made.{ibanParts, madeIban, IbanOf}
-use Rattle.numbers.proofs.Texts.{all3, all4, is-just, every-append}
+use Rattle.numbers.proofs.Texts.{all3, all4, is-just}
 use Rattle.numbers.proofs.OnePaired.{one-paired}
 
 -- the seven digits of an IBAN are its pair and its IID

@@ -14,8 +14,9 @@ use Rattle.sieve.specs.Mod10.{carry, checkDigit, checks10}
 use Rattle.swiss.specs.Forms.{qrr}
 use Rattle.digits.proofs.Carries.{check-digit-is-digit}
 use Rattle.sieve.specs.Only.{Only}
+use Rattle.runs.proofs.Parts.{every-append}
 use Rattle.numbers.specs.Made.{zeros, qrrPart, madeQrr, QrrOf}
-use Rattle.numbers.proofs.Texts.{all3, is-just, every-append}
+use Rattle.numbers.proofs.Texts.{all3, is-just}
 
 -- exactly one 27th digit passes after 26 bytes
 pub one-digit : (s : Bytes) → length s ≡ 26 → Only (λ d. (digit d ≡ true) × (checks10 (s ++ (d ∷ [])) ≡ true)) (checkDigit s)

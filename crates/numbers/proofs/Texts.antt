@@ -1,10 +1,10 @@
 -- Tests taken apart into facts and back, and a text of two characters, a pair and a rest. Assumes nothing.
 use Prim.Native.Nat.{ℕ, _≤_}
-use mathlib.Core.Bool.{Bool, true, _&&_, and-assoc, and-eq-true-iff}
-use mathlib.Core.List.{[], _∷_, _++_}
+use mathlib.Core.Bool.{Bool, true, _&&_, and-eq-true-iff}
+use mathlib.Core.List.{_++_}
 use mathlib.Core.Logic.{_↔_}
-use mathlib.Core.Path.{_≡_, refl, sym}
-use lib.Dec.{eqb, leb}
+use mathlib.Core.Path.{_≡_}
+use lib.Dec.{eqb}
 use lib.ListN.{length, take, drop, take-append-drop}
 use lib.Seq.{drop-drop}
 use borrow.Author.Tests.{eqb-true, eq-eqb, le-leb}
@@ -24,11 +24,6 @@ is-just n f s = (λ e. let t = and-eq-true-iff (eqb (length s) n) _ .0 e in (eqb
 -- within two bounds
 pub in-bounds : (lo hi x : ℕ) → lo ≤ x → x ≤ hi → within lo hi x ≡ true
 in-bounds lo hi x a b = rw (le-leb lo x a) (le-leb x hi b)
-
--- a test of every byte of a text after a text
-pub every-append : (f : ℕ → Bool) (a b : Bytes) → every f (a ++ b) ≡ every f a && every f b
-every-append f [] b = refl
-every-append f (x ∷ a) b = rw (every-append f a b) (sym (and-assoc (f x) (every f a) (every f b)))
 
 -- the first two characters, the pair and the rest
 pub in-three : (s : Bytes) → take 2 s ++ (take 2 (drop 2 s) ++ drop 4 s) ≡ s

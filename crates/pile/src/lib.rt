@@ -1,11 +1,9 @@
 // A morning's pile: bills that lie in one buffer, each judged, and an entry for each.
-use digits::steps;
 use sieve::Answer;
 use sieve::Fault;
 use sieve::line_of;
 use sieve::number_of;
-use swiss_judge::judge_by;
-ghost use mathlib.Core.Bool.{true};
+use swiss_judge::judge;
 ghost use mathlib.Core.Path.{_≡_};
 ghost use Prim.Native.Nat.{_*_, _≤_};
 ghost use lib.ListN.{length};
@@ -13,7 +11,6 @@ ghost use Rattle.sieve.specs.Bytes.{over};
 ghost use Rattle.sieve.specs.Paper.{paper};
 ghost use Rattle.sieve.specs.Verdict.{verdict};
 ghost use Rattle.swiss.specs.Swiss.{swiss};
-ghost use Rattle.digits.specs.Steps.{remainders};
 ghost use Rattle.pile.specs.Pile.{outsideAt, entry, Small, entries, Fillable, IsPiled};
 
 const MOST_BILLS: usize = 500;
@@ -59,29 +56,28 @@ fn lay_entry(part: &mut [u16], answer: Answer)
 }
 
 // Judges a bill, and puts its answer into its own part of the list.
-fn judge_bill(table: &[u8; 970], bill: &[u8], part: &mut [u16])
-    requires { ⌜ (remainders 0 (now table) ≡ true) × (length (now part) ≡ 2) ⌝ }
+fn judge_bill(bill: &[u8], part: &mut [u16])
+    requires { ⌜ length (now part) ≡ 2 ⌝ }
     ensures { λ _. ⌜ now (part .exit) ≡ entry (verdict swiss (now (bill .entry))) ⌝ }
 {
     let mut lines = [0; 68];
-    let answer = judge_by(table, bill, &mut lines);
+    let answer = judge(bill, &mut lines);
     lay_entry(part, answer);
 }
 
-// Judges bill after bill. One bill's answer says nothing about another's. The table of steps is made once for all.
+// Judges bill after bill. One bill's answer says nothing about another's.
 fn judge_all(buffer: &[u8], places: &[u32], count: usize, answers: &mut [u16])
     requires { ⌜ Fillable (now buffer) (now places) count (now answers) ⌝ }
     ensures { λ _.
         ⌜ now (answers .exit) ≡ over (now (answers .entry)) (entries (now (buffer .entry)) (now (places .entry)) count) ⌝ }
 {
-    let table = steps();
     let mut i = 0;
     while i < count {
         let start = places[2 * i] as usize;
         let end = start + places[2 * i + 1] as usize;
         let at = 2 * i;
         let next = at + 2;
-        judge_bill(&table, &buffer[start..end], &mut answers[at..next]);
+        judge_bill(&buffer[start..end], &mut answers[at..next]);
         i += 1;
     }
 }

@@ -1,19 +1,28 @@
 // Runs of bytes: counting, comparing and copying them.
 use bytes::copy;
 ghost use mathlib.Core.Path.{_≡_};
-ghost use mathlib.Core.Bool.{cond};
-ghost use Prim.Native.Nat.{_+_};
+ghost use Prim.Native.Nat.{_+_, _≤_};
 ghost use lib.Dec.{ltb};
-ghost use Rattle.sieve.specs.Bytes.{within, same, every};
+ghost use lib.ListN.{length};
+ghost use Rattle.sieve.specs.Bytes.{same, every};
 ghost use Rattle.sieve.specs.Characters.{characters};
 ghost use Rattle.runs.specs.CharacterKinds.{ofKind};
 ghost use Rattle.runs.specs.Laid.{fitting, overFitting};
 
-// How many characters a byte counts for: none where it is 80 to BF, which go on with a character that has begun.
-fn character_count(x: u8) -> usize
-    ensures { λ r. ⌜ r ≡ cond (within 0x80 0xBF x) 0 1 ⌝ }
+// The characters that begin in at most 255 bytes. Their number has 8 bits, so that the compiler counts 16 bytes at once.
+fn begun(s: &[u8]) -> u8
+    requires { ⌜ length (now s) ≤ 255 ⌝ }
+    ensures { λ r. ⌜ r ≡ characters (now (s .entry)) ⌝ }
 {
-    if (0x80 <= x) & (x <= 0xBF) { 0 } else { 1 }
+    let mut n: u8 = 0;
+    let mut i = 0;
+    while i < s.len() {
+        if (s[i] < 0x80) | (0xBF < s[i]) {
+            n += 1;
+        }
+        i += 1;
+    }
+    n
 }
 
 // The characters of a line.
@@ -21,12 +30,13 @@ pub fn characters(s: &[u8]) -> usize
     ensures { λ r. ⌜ r ≡ characters (now (s .entry)) ⌝ }
 {
     let mut n = 0;
-    let mut i = 0;
-    while i < s.len() {
-        n += character_count(s[i]);
-        i += 1;
+    let mut at = 0;
+    while 255 < s.len() - at {
+        let to = at + 255;
+        n += begun(&s[at..to]) as usize;
+        at = to;
     }
-    n
+    n + begun(&s[at..]) as usize
 }
 
 // Whether a line has more than so many characters. It has no more characters than bytes, so they are counted only where

@@ -1,13 +1,29 @@
 // The forms that lines take.
+use digits::Decimal;
+use digits::checks97_with;
+use digits::decimal_of;
 use digits::number;
 use runs::Kind;
 use runs::every;
 use runs::same;
 use swiss::limits;
+ghost use mathlib.Core.Bool.{_&&_};
 ghost use mathlib.Core.Path.{_≡_};
-ghost use lib.ListN.{take, drop};
+ghost use Prim.Native.Nat.{_≤_};
+ghost use lib.ListN.{length, take, drop};
+ghost use Rattle.sieve.specs.Bytes.{every};
+ghost use Rattle.sieve.specs.Letters.{digit};
 ghost use Rattle.swiss.specs.Forms.{iban, qrIban, country, amount, billing, qrr, scor};
-ghost use Rattle.sieve.specs.Mod97.{number};
+ghost use Rattle.sieve.specs.Mod97.{number, checks97};
+ghost use Rattle.swiss_forms.specs.Digits.{swissCountry, digitsIban, digitsScor, BehindPair};
+
+// Whether a text begins with CH or LI.
+fn swiss_country(s: &[u8]) -> bool
+    requires { ⌜ 2 ≤ length (now s) ⌝ }
+    ensures { λ r. ⌜ r ≡ swissCountry (now (s .entry)) ⌝ }
+{
+    same(&s[0..2], b"CH") | same(&s[0..2], b"LI")
+}
 
 // CH or LI, two digits, five digits (the IID), twelve of 0-9 A-Z.
 pub fn iban(s: &[u8]) -> bool
@@ -16,9 +32,7 @@ pub fn iban(s: &[u8]) -> bool
     if s.len() != 21 {
         return false;
     }
-    (same(&s[0..2], b"CH") | same(&s[0..2], b"LI"))
-        & every(Kind::Digit, &s[2..9])
-        & every(Kind::DigitOrCapital, &s[9..21])
+    swiss_country(s) & every(Kind::Digit, &s[2..9]) & every(Kind::DigitOrCapital, &s[9..21])
 }
 
 // The number that characters 5 to 9 of a line stand for: the IID, where the line is an IBAN.
@@ -94,4 +108,45 @@ pub fn scor(s: &[u8]) -> bool
         & same(&s[0..2], b"RF")
         & every(Kind::Digit, &s[2..4])
         & every(Kind::Alphanumeric, &s[4..])
+}
+
+// Whether digits alone are behind two characters, and the check digits are right. Behind the pair are at most 18, which
+// were read as one number.
+fn digits_right(s: &[u8], rest: Decimal) -> bool
+    requires { ⌜ BehindPair (now s) rest ⌝ }
+    ensures { λ r. ⌜ r ≡ every digit (drop 2 (now (s .entry))) && checks97 (now (s .entry)) ⌝ }
+{
+    match rest {
+        Decimal::Number(n) => checks97_with(s, n),
+        Decimal::Other => false,
+    }
+}
+
+// CH or LI, and digits alone behind it, with right check digits: an account as most have it, asked in one go.
+pub fn iban_right(s: &[u8]) -> bool
+    ensures { λ r. ⌜ r ≡ digitsIban (now (s .entry)) ⌝ }
+{
+    if s.len() != 21 {
+        return false;
+    }
+    if swiss_country(s) {
+        return digits_right(s, decimal_of(&s[4..21]));
+    }
+    false
+}
+
+// The same of a creditor reference: RF, and digits alone behind it, with right check digits.
+pub fn scor_right(s: &[u8]) -> bool
+    ensures { λ r. ⌜ r ≡ digitsScor (now (s .entry)) ⌝ }
+{
+    if s.len() < 5 {
+        return false;
+    }
+    if 22 < s.len() {
+        return false;
+    }
+    if same(&s[0..2], b"RF") {
+        return digits_right(s, decimal_of(&s[4..]));
+    }
+    false
 }

@@ -1,3 +1,2 @@
 pub mod Places
-mod AllRules
 pub mod OneAnswer

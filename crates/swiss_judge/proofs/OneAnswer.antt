@@ -4,12 +4,9 @@ use Rattle.sieve.specs.OneAnswer.{OneAnswer}
 use Rattle.sieve.proofs.PaperLosesNothing.{one-answer}
 use Rattle.swiss_judge.proofs as fn
 
--- the list at exit too, by both
+-- the list at exit too
 pub one-judge : OneAnswer fn.judge.ended fn.judge.Reads.Learnt
 one-judge κs a x y v w h k = (one-answer x y (h .answer ∙ sym (k .answer)), ap (λ d. (tt, (d, tt))) (h .places ∙ sym (k .places)))
-
-pub one-judge-by : OneAnswer fn.judge_by.ended fn.judge_by.Reads.Learnt
-one-judge-by κs a x y v w h k = (one-answer x y (h .answer ∙ sym (k .answer)), ap (λ d. (tt, (tt, (d, tt)))) (h .places ∙ sym (k .places)))
 
 pub one-verdict : OneAnswer fn.verdict.ended fn.verdict.Reads.Learnt
 one-verdict κs a x y v w h k = (one-answer x y (h ∙ sym k), refl)

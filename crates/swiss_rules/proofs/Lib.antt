@@ -1,2 +1,5 @@
+mod Addresses
 mod Groups
+mod References
 pub mod OneAnswer
+mod Right

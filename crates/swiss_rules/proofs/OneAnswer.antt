@@ -9,8 +9,5 @@ one-header κs a x y v w h k = (h ∙ sym k, refl)
 pub one-account : OneAnswer fn.account.ended fn.account.Reads.Learnt
 one-account κs a x y v w h k = (h ∙ sym k, refl)
 
-pub one-opening : OneAnswer fn.opening.ended fn.opening.Reads.Learnt
-one-opening κs a x y v w h k = (h ∙ sym k, refl)
-
 pub one-rules : OneAnswer fn.rules.ended fn.rules.Reads.Learnt
 one-rules κs a x y v w h k = (h ∙ sym k, refl)

@@ -1,28 +1,58 @@
--- The list of rules after the header, in three parts; an address that may be absent, and a reference by its type. Assumes nothing.
-use Prim.Native.Nat.{ℕ}
-use mathlib.Core.Bool.{Bool, true, cond, _&&_}
+-- The list of rules, in three parts; an address that may be absent, one that is there and one that is not; a reference by its type. Assumes nothing.
+use Prim.Native.Nat.{ℕ, zero, suc, _+_}
+use mathlib.Core.Bool.{Bool, _&&_}
 use mathlib.Core.List.{List, [], _∷_, flatten}
-use mathlib.Core.Path.{_≡_}
+use mathlib.Core.Option.{none}
+use lib.Dec.{ltb}
 use Rattle.sieve.specs.Bytes.{Bytes}
-use Rattle.sieve.specs.Mod10.{checks10}
-use Rattle.sieve.specs.Mod97.{checks97}
-use Rattle.sieve.specs.Rules.{Rule, When, isEmpty, never}
-use Rattle.swiss.specs.Forms.{qrr, scor}
-use Rattle.swiss.specs.Swiss.{account, address, reserved, payment, reference, information, procedures, pairing, together}
-use Rattle.swiss_rules.specs.declared.Right.{Right}
+use Rattle.sieve.specs.Characters.{characters}
+use Rattle.sieve.specs.Kinds.{empty, filled, atMost, formed, checked}
+use Rattle.sieve.specs.Rules.{Rule, When, noText, isEmpty, is, has, always, never}
+use Rattle.swiss.specs.Forms.{country}
+use Rattle.swiss.specs.Limits.{nameMost, streetMost, houseNumberMost, postcodeMost, townMost, structured}
+use Rattle.swiss.specs.Swiss.{header, account, address, reserved, payment, reference, information, procedures, pairing, together}
+use Rattle.findings.specs.declared.Finding.{Finding}
+use Rattle.findings.specs.Findings.{small, after}
+
+-- what is found in a line of at most so many characters, which is not empty when that is asked
+abbrev pub textFound : Bytes → ℕ → Bool → ℕ → Finding
+textFound l n when most = after (after (small none) (when && noText l) 8 n) (ltb most (characters l)) 9 n
 
 -- an address that may be absent is, where its first line is empty
 abbrev pub absentIf : Bool → ℕ → When
 absentIf optional n ls = optional && isEmpty n ls
 
--- whether a reference has the form of its type, and its check digits; one of no type has both
-pub record IsRight (l : Bytes) (qr creditor : Bool) (r : Right) : Type 0 where
-  pub formed : r .formed ≡ cond qr (qrr l) (cond creditor (scor l) true)
-  pub checked : r .checked ≡ cond qr (checks10 l) (cond creditor (checks97 l) true)
+-- an address that is there, from line n on: its first four lines, and the other three
+abbrev pub addressee : ℕ → List Rule
+addressee n =
+    filled n always ∷ formed n (is n structured)
+    ∷ filled (n + 1) always ∷ atMost nameMost (n + 1)
+    ∷ atMost streetMost (n + 2)
+    ∷ atMost houseNumberMost (n + 3)
+    ∷ []
 
--- lines 4 to 11
+abbrev pub locality : ℕ → List Rule
+locality n =
+    filled (n + 4) always ∷ atMost postcodeMost (n + 4)
+    ∷ filled (n + 5) always ∷ atMost townMost (n + 5)
+    ∷ filled (n + 6) always ∷ formed (n + 6) (has (n + 6) country)
+    ∷ []
+
+-- so many lines from line n on that must be empty; seven of them
+unfoldable pub emptyFrom : ℕ → ℕ → List Rule
+emptyFrom n zero = []
+emptyFrom n (suc k) = empty n always ∷ emptyFrom (n + 1) k
+
+abbrev pub vacant : ℕ → List Rule
+vacant n = emptyFrom n 7
+
+-- line 29, of a form and with check digits
+abbrev pub numbered29 : (Bytes → Bool) → (Bytes → Bool) → List Rule
+numbered29 form check = filled 29 always ∷ formed 29 (has 29 form) ∷ checked 29 (has 29 check) ∷ []
+
+-- lines 1 to 11
 unfoldable pub front : List Rule
-front = flatten (account ∷ address 5 never ∷ [])
+front = flatten (header ∷ account ∷ address 5 never ∷ [])
 
 -- lines 12 to 27
 unfoldable pub middle : List Rule
@@ -31,7 +61,3 @@ middle = flatten (reserved ∷ payment ∷ address 21 (isEmpty 21) ∷ [])
 -- lines 28 to 34, and those that go together
 unfoldable pub back : List Rule
 back = flatten (reference ∷ information ∷ procedures ∷ (pairing ∷ together ∷ []) ∷ [])
-
--- all of these
-unfoldable pub afterHeader : List Rule
-afterHeader = flatten (front ∷ middle ∷ back ∷ [])

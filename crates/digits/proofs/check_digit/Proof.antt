@@ -11,10 +11,10 @@ use Rattle.digits.proofs.check_digit.Statement.{statement}
 use Rattle.digits.proofs.check_digit.Tie as tie
 
 abbrev Inv-loop : tie.InvT-loop
-Inv-loop s c₀ i₀ c i = (i ≤ length s) × (c < 10) × (carry 0 s ≡ carry c (drop i s))
+Inv-loop s table c₀ i₀ c i = (i ≤ length s) × (c < 10) × (carry 0 s ≡ carry c (drop i s))
 
 abbrev μ-loop : tie.MeasureT-loop
-μ-loop s c₀ i₀ c i = length s - i
+μ-loop s table c₀ i₀ c i = length s - i
 
 loop-holds : tie.Need-loop-holds Inv-loop μ-loop
 loop-holds c = (omega arith, omega arith, refl)
@@ -33,7 +33,7 @@ loop-less c = search needs
 
 loop-again : tie.Need-loop-again Inv-loop μ-loop
 loop-again c =
-    let l = c .before .before .before in
+    let l = c .before .before .before .before in
     let s = l .before .before .args .s .now in
     rw (c .next-carry .ensures) (
       omega arith,

@@ -71,9 +71,6 @@ header-requires c κs = search needs
 returns : tie.Need-returns
 returns c = let found = c .before .before in found-unknown (four (lines found)) _ (group-stops _ header account (header-is found) (c .if1 .taken)) (c .if1 .taken)
 
-steps-requires : tie.Need-steps-requires
-steps-requires c κs = search needs
-
 sub-account : tie.Need-sub-account
 sub-account c = search needs
 
@@ -81,7 +78,7 @@ part-account-start : tie.Need-part-account-start
 part-account-start c = search needs
 
 part-account-end : tie.Need-part-account-end
-part-account-end c = omega (arith, ends (four (c .before .before .before .before .before .before .before .before)))
+part-account-end c = omega (arith, ends (four (c .before .before .before .before .before .before)))
 
 account-requires : tie.Need-account-requires
 account-requires c κs = search needs
@@ -91,12 +88,12 @@ sub-bytes c = search needs
 
 -- the way back from the second group to the first
 abbrev at-header : tie.After-account → tie.After-header
-at-header c = c .before .before .before .before .before .before
+at-header c = c .before .before .before .before
 
 -- what both groups find, where the first finds nothing
 rules-are : (c : tie.After-account) → c .account .result ≡ finds rules (linesOf (cut (head (lines (at-header c)))))
 unfolding numbered
-rules-are c = group-passed _ header account refl (header-is (at-header c)) (c .before .before .before .before .if1 .left) (c .account .ensures ∙ of-account (four (lines (at-header c))))
+rules-are c = group-passed _ header account refl (header-is (at-header c)) (c .before .before .if1 .left) (c .account .ensures ∙ of-account (four (lines (at-header c))))
 
 returns-2 : tie.Need-returns-2
 returns-2 c = let found = c .before .before .before in answers-known (four (lines (at-header found))) _ _ (rules-are found) (c .if2 .taken)
@@ -123,7 +120,6 @@ look-spec =
     part-coding-end
     header-requires
     returns
-    steps-requires
     sub-account
     part-account-start
     part-account-end

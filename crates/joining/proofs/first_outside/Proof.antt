@@ -44,22 +44,19 @@ shared-slice-read-bytes c = search needs
 cast-bytes : tie.Need-cast-bytes Inv-loop μ-loop
 cast-bytes c = omega (arith, c .shared-slice-known2 .given (2 * c .before .before .before .loop .i + 1))
 
+add-i : tie.Need-add-i Inv-loop μ-loop
+add-i c = search needs
+
 add-if1 : tie.Need-add-if1 Inv-loop μ-loop
 add-if1 c =
     let i = c .before .before .before .loop .i in
     omega (arith, c .before .shared-slice-known .given (2 * i), c .shared-slice-known2 .given (2 * i + 1))
-
-add-line : tie.Need-add-line Inv-loop μ-loop
-add-line c = search needs
 
 returns : tie.Need-returns Inv-loop μ-loop
 returns c =
     let at-loop = c .before .before .before .before in
     let a = at-loop .before .args in
     ap outsideAs (sym (at-loop .loop .inv .1 ∙ outside-here (a .text .now) (a .list .now) (a .count) (at-loop .loop .i) (c .before .before .before .loop-test .taken) (c .if1 .taken)))
-
-add-i : tie.Need-add-i Inv-loop μ-loop
-add-i c = search needs
 
 loop-less : tie.Need-loop-less Inv-loop μ-loop
 loop-less c = search needs
@@ -92,10 +89,9 @@ first-outside-spec =
     mul-bytes-2
     shared-slice-read-bytes
     cast-bytes
-    add-if1
-    add-line
-    returns
     add-i
+    add-if1
+    returns
     loop-less
     loop-again
     returns-2)

@@ -1,194 +1,233 @@
 -- `lines::come` meets its contract. Both loops keep where the walk has come to, with nothing bad found. Assumes nothing.
-use Prim.Native.Nat.{ℕ, _+_, _-_, _≤_}
+use Prim.Native.Nat.{ℕ, _+_, _-_, _^_, _≤_, _<_}
+use native.Mathlib.Nat.{sub-zero}
 use native.Mathlib.Omega.{arith}
-use mathlib.Core.Logic.{_≢_, ⊎-elim}
-use mathlib.Core.Path.{_≡_, refl, sym, _∙_}
+use mathlib.Core.List.{List}
+use mathlib.Core.Path.{_≡_, refl, sym, ap, _∙_}
 use lib.ListN.{length, drop}
 use Rattle.sieve.specs.declared.Charset.{Charset}
 use Rattle.sieve.specs.Bytes.{Bytes}
-use Rattle.sieve.specs.Characters.{breakWidth}
 use Rattle.sieve.specs.Charsets.{ofSet}
+use Rattle.text.specs.declared.Test.the-variants.{NoDelete}
+use Rattle.text.specs.Runs.{passing}
+use Rattle.text.proofs.Runs.{few as run-few}
+use Rattle.lines.specs.declared.Passed.{Passed}
 use Rattle.lines.specs.declared.Walked.the-variants.{Clean}
-use Rattle.lines.specs.Walking.{noted, heldBy}
+use Rattle.lines.specs.Walking.{noted, onePassed, Passable}
 use Rattle.lines.proofs.Stepping.{few, stops-here, ends-here}
-use Rattle.lines.proofs.Coming.{Here, begins, by-itself, line-feed, like-first, character, run-passed, a-break-passed, all-passed, line-ends}
+use Rattle.lines.proofs.Coming.{Here, begins, line-feed, carriage-return, no-break, a-break-passed, run-passed, row-passed, no-row, all-passed, all-listed-so-far}
 use borrow.Author.Needs.{needs}
 use Rattle.lines.proofs.come.Statement.{statement}
 use Rattle.lines.proofs.come.Tie as tie
 
 abbrev Inv-loop : tie.InvT-loop
-Inv-loop s set places₀ at₀ start₀ feeds₀ breaks₀ walked₀ places at start feeds breaks walked = (at₀ ≤ at) × Here set s places at start feeds breaks × (walked ≡ Clean)
+Inv-loop s set places₀ end head at₀ passed₀ walked₀ places at passed walked = (at₀ ≤ at) × Here set s places at passed × (walked ≡ Clean)
 
 abbrev μ-loop : tie.MeasureT-loop
-μ-loop s set places₀ at₀ start₀ feeds₀ breaks₀ walked₀ places at start feeds breaks walked = length s - at
+μ-loop s set places₀ end head at₀ passed₀ walked₀ places at passed walked = length s - at
 
 abbrev Inv-lines : tie.InvT-lines
-Inv-lines s set places₀ at₀ start₀ feeds₀ breaks₀ walked₀ places at start feeds breaks walked = Here set s places at start feeds breaks × (walked ≡ Clean)
+Inv-lines s set places₀ end head at₀ passed₀ walked₀ places at passed walked = Here set s places at passed × (walked ≡ Clean) × (at < length s → passed .start ≡ at)
 
 abbrev μ-lines : tie.MeasureT-lines
-μ-lines s set places₀ at₀ start₀ feeds₀ breaks₀ walked₀ places at start feeds breaks walked = length s - at
+μ-lines s set places₀ end head at₀ passed₀ walked₀ places at passed walked = length s - at
 
--- the bytes, from the inner loop
-abbrev text : tie.At-loop Inv-loop μ-loop Inv-lines μ-lines → Bytes
-text l = l .before .before .before .before .args .s .now
+-- the outer loop, from the inner one; and from it the bytes, their set, and where the first DEL is
+abbrev lines-of : tie.At-loop Inv-loop μ-loop Inv-lines μ-lines → tie.At-lines Inv-loop μ-loop Inv-lines μ-lines
+lines-of l = l .before .before .before .before
 
-abbrev set-of : tie.At-loop Inv-loop μ-loop Inv-lines μ-lines → Charset
-set-of l = l .before .before .before .before .args .set
+abbrev text : tie.At-lines Inv-loop μ-loop Inv-lines μ-lines → Bytes
+text a = a .before .before .before .before .args .s .now
 
--- the turn of the inner loop in which a byte is held against LF; and where the line before a break is noted
-abbrev turn : tie.Else1 Inv-loop μ-loop Inv-lines μ-lines → tie.In-loop Inv-loop μ-loop Inv-lines μ-lines
-turn c = c .before .before .before
+abbrev set-of : tie.At-lines Inv-loop μ-loop Inv-lines μ-lines → Charset
+set-of a = a .before .before .before .before .args .set
 
-abbrev at-note : tie.After-row-known Inv-loop μ-loop Inv-lines μ-lines → tie.After-note-arg Inv-loop μ-loop Inv-lines μ-lines
-at-note c = c .before .before .before .before
+-- where the walk has come to behind a run of characters by themselves
+behind : (p : tie.After-plain-end Inv-loop μ-loop Inv-lines μ-lines) → let l = p .before .before in Here (set-of (lines-of l)) (text (lines-of l)) (l .loop .places) (p .plain-end .result) (l .loop .passed)
+behind p =
+    let l = p .before .before in
+    let delete = lines-of l .before .before .first-delete in
+    rw (p .plain-end .ensures) (run-passed _ _ _ _ _ (delete .result - 0) _ (sub-zero _ ∙ delete .ensures) refl (l .loop .inv .1))
 
--- where the walk comes to in a turn, if it passes n bytes of the line
-abbrev Passed : tie.In-loop Inv-loop μ-loop Inv-lines μ-lines → ℕ → Type 0
-Passed c n = let l = c .before .loop in Here (set-of (c .before)) (text (c .before)) (l .places) (l .at + n) (l .start) (l .feeds) (l .breaks)
+-- a byte stands there, if it is not the end
+there : (e : tie.Else2 Inv-loop μ-loop Inv-lines μ-lines) → e .before .plain-end .result < length (text (lines-of (e .before .before .before)))
+there e = omega (arith, behind (e .before) .come .within, e .if2 .left)
 
-abbrev before-place : (c : tie.In-loop Inv-loop μ-loop Inv-lines μ-lines) → let l = c .before .loop in Here (set-of (c .before)) (text (c .before)) (l .places) (l .at) (l .start) (l .feeds) (l .breaks)
-before-place c = c .before .loop .inv .1
+-- what of the numbers of lines that were passed fits
+passable : {set : Charset} {s : Bytes} {l : List ℕ} {at : ℕ} {passed : Passed} (b : ℕ) → Here set s l at passed → 1 ≤ b → at + b < 2 ^ 64 → Passable passed at b
+passable b here w f = record { feeds = few _ _ _ _ (here .come); returns = here .fewer; wide = w; fits = f }
+
+first-delete-requires : tie.Need-first-delete-requires Inv-loop μ-loop Inv-lines μ-lines
+first-delete-requires c κs = search needs
+
+sub-head : tie.Need-sub-head Inv-loop μ-loop Inv-lines μ-lines
+sub-head c = search needs
+
+part-head-start : tie.Need-part-head-start Inv-loop μ-loop Inv-lines μ-lines
+part-head-start c = search needs
+
+part-head-end : tie.Need-part-head-end Inv-loop μ-loop Inv-lines μ-lines
+part-head-end c = omega (arith, c .first-delete .ensures, run-few (passing NoDelete) (c .before .before .args .s .now))
 
 lines-holds : tie.Need-lines-holds Inv-loop μ-loop Inv-lines μ-lines
-lines-holds c = (begins _ _ _, refl)
+lines-holds c = (begins _ _ _, refl, λ h. refl)
 
-loop-holds : tie.Need-loop-holds Inv-loop μ-loop Inv-lines μ-lines
-loop-holds c = (omega arith, c .before .lines .inv .0, c .before .lines .inv .1)
+shared-slice-read-if1 : tie.Need-shared-slice-read-if1 Inv-loop μ-loop Inv-lines μ-lines
+shared-slice-read-if1 c = search needs
+
+-- an empty line is passed, with the LF that ends it
+empty-passed : (c : tie.After-pass-arg Inv-loop μ-loop Inv-lines μ-lines) → let a = c .before .before .before .before in Here (set-of a) (text a) (noted (a .lines .places) (a .lines .passed .feeds) (a .lines .passed .start) 0) (a .lines .at + 1) (onePassed (a .lines .passed) (a .lines .at) 1)
+empty-passed c =
+    let turn = c .before .before .before in
+    let a = turn .before in
+    let (here, clean, starts) = a .lines .inv in
+    let (z, e) = line-feed (set-of a) (text a) _ (turn .lines-test .taken) (c .before .if1 .taken) in
+    let empty : a .lines .at - a .lines .passed .start ≡ 0 = omega (arith, starts (turn .lines-test .taken)) in
+    rw empty at (a-break-passed _ _ _ _ _ here (c .pass-arg .given .0 .1) 1 (turn .lines-test .taken) z e (λ h. omega arith))
+
+pass-requires : tie.Need-pass-requires Inv-loop μ-loop Inv-lines μ-lines
+pass-requires c κs = let a = c .before .before .before .before in (c .pass-arg .given .0 .1, passable 1 (a .lines .inv .0) (omega arith) (omega (arith, empty-passed c .come .within)))
+
+add-at : tie.Need-add-at Inv-loop μ-loop Inv-lines μ-lines
+add-at c = omega (arith, empty-passed (c .before) .come .within)
 
 lines-less : tie.Need-lines-less Inv-loop μ-loop Inv-lines μ-lines
-lines-less c = omega arith
+lines-less c = omega (arith, c .before .before .before .before .lines-test .taken)
 
 lines-again : tie.Need-lines-again Inv-loop μ-loop Inv-lines μ-lines
-lines-again c = (c .before .loop .inv .1, c .before .loop .inv .2)
+lines-again c =
+    let (is, noting) = c .pass .ensures in
+    (rw (noting, is) (empty-passed (c .before)), c .before .before .before .before .before .lines .inv .1, λ h. ap (λ (p : Passed). p .start) is)
 
-shared-slice-read-x : tie.Need-shared-slice-read-x Inv-loop μ-loop Inv-lines μ-lines
-shared-slice-read-x c = search needs
+loop-holds : tie.Need-loop-holds Inv-loop μ-loop Inv-lines μ-lines
+loop-holds c = let i = c .before .before .before .lines .inv in (omega arith, i .0, i .1)
 
-in-one-requires : tie.Need-in-one-requires Inv-loop μ-loop Inv-lines μ-lines
-in-one-requires c κs = search needs
+lines-less-2 : tie.Need-lines-less-2 Inv-loop μ-loop Inv-lines μ-lines
+lines-less-2 c = omega (arith, c .loop-test .left, c .before .before .before .before .lines-test .taken)
 
-byte-passed : (c : tie.Then1 Inv-loop μ-loop Inv-lines μ-lines) → Passed (c .before .before .before) 1
-byte-passed c = let t = c .before .before .before in character _ _ _ _ _ _ _ (before-place t) 1 (by-itself (set-of (t .before)) (text (t .before)) _ (t .loop-test .taken) (sym (c .before .in-one .ensures) ∙ c .if1 .taken)) (λ h. omega arith)
-
-add-plain-end : tie.Need-add-plain-end Inv-loop μ-loop Inv-lines μ-lines
-add-plain-end c = omega (arith, byte-passed c .come .within)
+lines-again-2 : tie.Need-lines-again-2 Inv-loop μ-loop Inv-lines μ-lines
+lines-again-2 c = let i = c .before .loop .inv in (i .1, i .2, λ h. absurd (omega (arith, c .loop-test .left)))
 
 plain-end-requires : tie.Need-plain-end-requires Inv-loop μ-loop Inv-lines μ-lines
 plain-end-requires c κs = search needs
 
+shared-slice-read-x : tie.Need-shared-slice-read-x Inv-loop μ-loop Inv-lines μ-lines
+shared-slice-read-x c = there (c .before)
+
+-- where a line ends with LF, and where it ends with CR LF: the turn in which its break is found
+abbrev at-feed : tie.After-struct-known Inv-loop μ-loop Inv-lines μ-lines → tie.Else2 Inv-loop μ-loop Inv-lines μ-lines
+at-feed c = c .before .before .before .before
+
+abbrev at-return : tie.After-struct-known2 Inv-loop μ-loop Inv-lines μ-lines → tie.Else2 Inv-loop μ-loop Inv-lines μ-lines
+at-return c = c .before .before .before .before .before .before
+
+-- where the walk comes to, if a break of b bytes ends the line
+abbrev Ended : tie.Else2 Inv-loop μ-loop Inv-lines μ-lines → ℕ → Type 0
+Ended e b =
+    let p = e .before in
+    let l = p .before .before in
+    let passed = l .loop .passed in
+    Here (set-of (lines-of l)) (text (lines-of l)) (noted (l .loop .places) (passed .feeds) (passed .start) (p .plain-end .result - passed .start)) (p .plain-end .result + b) (onePassed passed (p .plain-end .result) b)
+
+feed-passed : (c : tie.After-struct-known Inv-loop μ-loop Inv-lines μ-lines) → Ended (at-feed c) 1
+feed-passed c =
+    let e = at-feed c in
+    let a = lines-of (e .before .before .before) in
+    let (z, w) = line-feed (set-of a) (text a) _ (there e) (c .before .before .if3 .taken) in
+    a-break-passed _ _ _ _ _ (behind (e .before)) (c .before .pass-arg2 .given .0 .1) 1 (there e) z w (λ h. omega arith)
+
+return-passed : (c : tie.After-struct-known2 Inv-loop μ-loop Inv-lines μ-lines) → Ended (at-return c) 2
+return-passed c =
+    let e = at-return c in
+    let a = lines-of (e .before .before .before) in
+    let found = c .before .before in
+    let (fits, (z, w)) = carriage-return (set-of a) (text a) _ (there e) (rw (found .before .feed-after .ensures) at (found .if4 .taken)) in
+    a-break-passed _ _ _ _ _ (behind (e .before)) (c .before .pass-arg3 .given .0 .1) 2 (there e) z w (λ h. omega arith)
+
+sub-pass : tie.Need-sub-pass Inv-loop μ-loop Inv-lines μ-lines
+sub-pass c = behind (at-feed c .before) .before
+
+pass-requires-2 : tie.Need-pass-requires-2 Inv-loop μ-loop Inv-lines μ-lines
+pass-requires-2 c κs = (c .before .pass-arg2 .given .0 .1, passable 1 (behind (at-feed c .before)) (omega arith) (omega (arith, feed-passed c .come .within)))
+
+add-at-2 : tie.Need-add-at-2 Inv-loop μ-loop Inv-lines μ-lines
+add-at-2 c = omega (arith, feed-passed (c .before) .come .within)
+
+lines-less-3 : tie.Need-lines-less-3 Inv-loop μ-loop Inv-lines μ-lines
+lines-less-3 c = let e = at-feed (c .before) in omega (arith, there e, e .before .plain-end .ensures, e .before .before .before .loop .inv .0)
+
+lines-again-3 : tie.Need-lines-again-3 Inv-loop μ-loop Inv-lines μ-lines
+lines-again-3 c =
+    let (is, noting) = c .pass2 .ensures in
+    (rw (noting, is) (feed-passed (c .before)), at-feed (c .before) .before .before .before .loop .inv .2, λ h. ap (λ (p : Passed). p .start) is)
+
+feed-after-requires : tie.Need-feed-after-requires Inv-loop μ-loop Inv-lines μ-lines
+feed-after-requires c κs = there (c .before .before)
+
+sub-pass-2 : tie.Need-sub-pass-2 Inv-loop μ-loop Inv-lines μ-lines
+sub-pass-2 c = behind (at-return c .before) .before
+
+pass-requires-3 : tie.Need-pass-requires-3 Inv-loop μ-loop Inv-lines μ-lines
+pass-requires-3 c κs = (c .before .pass-arg3 .given .0 .1, passable 2 (behind (at-return c .before)) (omega arith) (omega (arith, return-passed c .come .within)))
+
+add-at-3 : tie.Need-add-at-3 Inv-loop μ-loop Inv-lines μ-lines
+add-at-3 c = omega (arith, return-passed (c .before) .come .within)
+
+lines-less-4 : tie.Need-lines-less-4 Inv-loop μ-loop Inv-lines μ-lines
+lines-less-4 c = let e = at-return (c .before) in omega (arith, there e, e .before .plain-end .ensures, e .before .before .before .loop .inv .0)
+
+lines-again-4 : tie.Need-lines-again-4 Inv-loop μ-loop Inv-lines μ-lines
+lines-again-4 c =
+    let (is, noting) = c .pass3 .ensures in
+    (rw (noting, is) (return-passed (c .before)), at-return (c .before) .before .before .before .loop .inv .2, λ h. ap (λ (p : Passed). p .start) is)
+
+characters-in-requires : tie.Need-characters-in-requires Inv-loop μ-loop Inv-lines μ-lines
+characters-in-requires c κs = search needs
+
+-- the turn in which a row of characters is asked for
+abbrev at-row : tie.After-characters-in Inv-loop μ-loop Inv-lines μ-lines → tie.Else2 Inv-loop μ-loop Inv-lines μ-lines
+at-row c = c .before .before .before .before .before
+
+-- a row of characters is passed
+on-row : (c : tie.Else5 Inv-loop μ-loop Inv-lines μ-lines) → let e = at-row (c .before) in let l = e .before .before .before in Here (set-of (lines-of l)) (text (lines-of l)) (l .loop .places) (e .before .plain-end .result + c .before .characters-in .result) (l .loop .passed)
+on-row c = row-passed _ _ _ _ _ _ (c .before .characters-in .ensures) (c .if5 .left) (behind (at-row (c .before) .before))
+
+add-line : tie.Need-add-line Inv-loop μ-loop Inv-lines μ-lines
+add-line c = let e = at-row (c .before .before) in omega (arith, there e, few _ _ _ _ (behind (e .before) .come))
+
+add-at-4 : tie.Need-add-at-4 Inv-loop μ-loop Inv-lines μ-lines
+add-at-4 c = omega (arith, on-row c .come .within)
+
 loop-less : tie.Need-loop-less Inv-loop μ-loop Inv-lines μ-lines
-loop-less c = omega (arith, c .plain-end .ensures)
+loop-less c = let e = at-row (c .before) in omega (arith, there e, e .before .plain-end .ensures, c .if5 .left)
 
 loop-again : tie.Need-loop-again Inv-loop μ-loop Inv-lines μ-lines
 loop-again c =
-    let t = c .before .before .before .before in
-    (omega (arith, c .plain-end .ensures), rw (c .plain-end .ensures) (run-passed _ _ _ _ _ _ _ _ refl (byte-passed (c .before))), t .before .loop .inv .2)
-
-width-in-requires : tie.Need-width-in-requires Inv-loop μ-loop Inv-lines μ-lines
-width-in-requires c κs = search needs
-
-character-passed : (c : tie.Then3 Inv-loop μ-loop Inv-lines μ-lines) → Passed (turn (c .before .before .before)) (c .before .width-in .result)
-character-passed c = character _ _ _ _ _ _ _ (before-place (turn (c .before .before .before))) _ (c .before .width-in .ensures) (c .if3 .taken)
-
-add-at : tie.Need-add-at Inv-loop μ-loop Inv-lines μ-lines
-add-at c = omega (arith, character-passed c .come .within)
-
-loop-less-2 : tie.Need-loop-less-2 Inv-loop μ-loop Inv-lines μ-lines
-loop-less-2 c = omega (arith, character-passed c .come .within)
-
-loop-again-2 : tie.Need-loop-again-2 Inv-loop μ-loop Inv-lines μ-lines
-loop-again-2 c = (omega arith, character-passed c, turn (c .before .before .before) .before .loop .inv .2)
-
--- no character begins there
-abbrev no-character : (c : tie.Else3 Inv-loop μ-loop Inv-lines μ-lines) → let l = turn (c .before .before .before) .before in ofSet (set-of l) (drop (l .loop .at) (text l)) ≡ 0
-no-character c = sym (c .before .width-in .ensures) ∙ c .if3 .left
-
-break-width-requires : tie.Need-break-width-requires Inv-loop μ-loop Inv-lines μ-lines
-break-width-requires c κs = search needs
-
--- where no break begins either
-abbrev bad-turn : tie.Then4 Inv-loop μ-loop Inv-lines μ-lines → tie.In-loop Inv-loop μ-loop Inv-lines μ-lines
-bad-turn c = let e = c .before .before in turn (e .before .before .before)
-
-add-line : tie.Need-add-line Inv-loop μ-loop Inv-lines μ-lines
-add-line c = omega (arith, few _ _ _ _ (before-place (bad-turn c) .come))
-
--- a break begins there
-a-break : (c : tie.Joined2 Inv-loop μ-loop Inv-lines μ-lines) → let l = turn (c .before) .before in let t = drop (l .loop .at) (text l) in (ofSet (set-of l) t ≡ 0) × (c .if2 .b ≡ breakWidth t) × (c .if2 .b ≢ 0)
-a-break c =
-    ⊎-elim
-    (λ w. (sym (w .1 .ensures) ∙ w .2 .left, w .5 ∙ w .3 .ensures, λ z. w .4 .left (sym (w .5) ∙ z)))
-    (λ w. let f = line-feed (set-of (turn (c .before) .before)) _ _ (turn (c .before) .loop-test .taken) (w .0 .left) in (f .0, w .1 ∙ f .1, λ z. omega arith))
-    (c .if2 .came)
-
-break-passed : (c : tie.After-note-arg Inv-loop μ-loop Inv-lines μ-lines)
-    → let j = c .before in let l = turn (j .before) .before in let at = l .loop .at + j .if2 .b in Here (set-of l) (text l) (noted (l .loop .places) (l .loop .feeds) (l .loop .start) (l .loop .at - l .loop .start)) at at (l .loop .feeds + 1) (heldBy (l .loop .breaks) (j .if2 .b) (l .loop .feeds + 1))
-break-passed c =
-    let t = turn (c .before .before) in
-    let (z, e, h) = a-break (c .before) in
-    a-break-passed _ _ _ _ _ _ _ (before-place t) (c .note-arg .given .0 .1) _ (t .loop-test .taken) z e h
-
-sub-note : tie.Need-sub-note Inv-loop μ-loop Inv-lines μ-lines
-sub-note c = before-place (turn (c .before .before)) .before
-
-note-requires : tie.Need-note-requires Inv-loop μ-loop Inv-lines μ-lines
-note-requires c κs = c .note-arg .given .0 .1
-
-add-feeds : tie.Need-add-feeds Inv-loop μ-loop Inv-lines μ-lines
-add-feeds c = omega (arith, few _ _ _ _ (before-place (turn (c .before .before .before)) .come))
-
-held-requires : tie.Need-held-requires Inv-loop μ-loop Inv-lines μ-lines
-held-requires c κs = search needs
-
-add-at-2 : tie.Need-add-at-2 Inv-loop μ-loop Inv-lines μ-lines
-add-at-2 c = omega (arith, break-passed (at-note c) .come .within)
-
-lines-less-2 : tie.Need-lines-less-2 Inv-loop μ-loop Inv-lines μ-lines
-lines-less-2 c = omega (arith, a-break (at-note c .before) .2)
-
--- the breaks that were passed, with this one
-abbrev Held : tie.Joined5 Inv-loop μ-loop Inv-lines μ-lines → Type 0
-Held c = let j = c .before .before .before .before in let l = turn (j .before) .before .loop in c .if5 .breaks ≡ heldBy (l .breaks) (j .if2 .b) (l .feeds + 1)
-
-breaks-held : (c : tie.Joined5 Inv-loop μ-loop Inv-lines μ-lines) → Held c
-breaks-held c =
-    let noting = c .before .before .before in
-    ⊎-elim {C = Held c} (λ w. w .2 ∙ w .1 .ensures) (λ w. w .1 ∙ like-first _ _ _ (a-break (noting .before) .2) (w .0 .left)) (c .if5 .came)
-
-lines-again-2 : tie.Need-lines-again-2 Inv-loop μ-loop Inv-lines μ-lines
-lines-again-2 c =
-    let noted = at-note c in
-    (rw (c .before .before .before .note .ensures, breaks-held (c .before)) (break-passed noted), turn (noted .before .before) .before .loop .inv .2)
+    let p = at-row (c .before) .before in
+    (omega (arith, p .plain-end .ensures, p .before .before .loop .inv .0), on-row c, p .before .before .loop .inv .2)
 
 returns : tie.Need-returns Inv-loop μ-loop Inv-lines μ-lines
 returns c =
     let i = c .before .lines in
     let here = i .inv .0 in
-    let end = c .lines-test .left in (
-      i .inv .1 ∙ ends-here _ _ _ _ (here .come) end,
-      record {
-        start = omega (arith, here .before, here .come .within);
-        fits = omega (arith, few _ _ _ _ (here .come), here .come .within);
-        parted = λ h. all-passed _ _ _ _ _ _ _ here end;
-        last = λ h. line-ends _ _ _ _ _ _ _ here end;
-        filled = λ h short. here .listed short;
-      },
-    )
+    let end = c .lines-test .left in
+    (i .inv .1 ∙ ends-here _ _ _ _ (here .come) end, record { passed = λ h. all-passed _ _ _ _ _ here end; listed = λ h. all-listed-so-far _ _ _ _ _ here end })
 
 returns-2 : tie.Need-returns-2 Inv-loop μ-loop Inv-lines μ-lines
 returns-2 c =
-    let t = bad-turn c in
-    let here = before-place t in
-    let found = stops-here _ _ _ _ (here .come) (t .loop-test .taken) (no-character (c .before .before)) (sym (c .before .break-width .ensures) ∙ c .if4 .taken) in (
-      found,
-      record {
-        start = omega (arith, here .before, here .come .within);
-        fits = omega (arith, few _ _ _ _ (here .come), here .come .within);
-        parted = λ h. let z : _≡_ {A = ℕ} 0 1 = cc in absurd (omega arith);
-        last = λ h. let z : _≡_ {A = ℕ} 0 1 = cc in absurd (omega arith);
-        filled = λ h short. here .listed short;
-      },
-    )
+    let here = behind (c .before) in
+    let end : length (text (lines-of (c .before .before .before))) ≤ c .before .plain-end .result = omega (arith, c .if2 .taken) in
+    (c .before .before .before .loop .inv .2 ∙ ends-here _ _ _ _ (here .come) end, record { passed = λ h. all-passed _ _ _ _ _ here end; listed = λ h. all-listed-so-far _ _ _ _ _ here end })
+
+returns-3 : tie.Need-returns-3 Inv-loop μ-loop Inv-lines μ-lines
+returns-3 c =
+    let row = c .before .before in
+    let none = row .before in
+    let e = at-row row in
+    let a = lines-of (e .before .before .before) in
+    let neither = no-break (text a) _ (none .before .before .if3 .left) (rw (none .before .feed-after .ensures) at (none .if4 .left)) in
+    let found = stops-here _ _ _ _ (behind (e .before) .come) (there e) (no-row (set-of a) (drop (e .before .plain-end .result) (text a)) (sym (row .characters-in .ensures) ∙ c .before .if5 .taken)) neither in
+    (found, record { passed = λ h. let z : _≡_ {A = ℕ} 0 1 = cc in absurd (omega arith); listed = λ h. let z : _≡_ {A = ℕ} 0 1 = cc in absurd (omega arith) })
 
 pub come-spec : {M : Type 1} → statement M
 come-spec =
@@ -198,28 +237,37 @@ come-spec =
     μ-loop
     Inv-lines
     μ-lines
+    first-delete-requires
+    sub-head
+    part-head-start
+    part-head-end
     lines-holds
-    loop-holds
+    shared-slice-read-if1
+    pass-requires
+    add-at
     lines-less
     lines-again
-    shared-slice-read-x
-    in-one-requires
-    add-plain-end
-    plain-end-requires
-    loop-less
-    loop-again
-    width-in-requires
-    add-at
-    loop-less-2
-    loop-again-2
-    break-width-requires
-    add-line
-    sub-note
-    note-requires
-    add-feeds
-    held-requires
-    add-at-2
+    loop-holds
     lines-less-2
     lines-again-2
+    plain-end-requires
+    shared-slice-read-x
+    sub-pass
+    pass-requires-2
+    add-at-2
+    lines-less-3
+    lines-again-3
+    feed-after-requires
+    sub-pass-2
+    pass-requires-3
+    add-at-3
+    lines-less-4
+    lines-again-4
+    characters-in-requires
+    add-line
+    add-at-4
+    loop-less
+    loop-again
     returns
-    returns-2)
+    returns-2
+    returns-3)

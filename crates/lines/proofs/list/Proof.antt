@@ -32,13 +32,13 @@ list-absent-requires c κs =
     let noting = c .before .before in
     let start = noting .before .before .before in
     let s = start .args .s .now in
-    let came = start .args .came in
-    let (is, clean) = start .pre in
+    let passed = start .args .passed in
+    let is = start .pre in
     let short = noting .before .if1 .left in
     let r : LineAt = record { end = length s; next = length s } in
-    let last : IsLineAt s (came .start) r = record { end = sym (is .last clean); next = omega (arith, ends s (length s) (omega arith) .1) } in
+    let last : IsLineAt s (passed .start) r = record { end = sym (is .last); next = omega (arith, ends s (length s) (omega arith) .1) } in
     let size = noting .note-arg .given .0 .1 in
-    ((short, c .list-absent-arg .given .0 .1), rw (c .before .note .ensures) (one-noted s (start .args .places .now) (came .start) (came .feeds) size r last (is .start) short (is .filled clean short)))
+    ((short, c .list-absent-arg .given .0 .1), rw (c .before .note .ensures) (one-noted s (start .args .places .now) (passed .start) (passed .feeds) size r last (is .start) short (is .filled short)))
 
 returns-2 : tie.Need-returns-2
 returns-2 c = let short = c .before .before .before .before .if1 .left in rw (le-leb _ greatest short) (c .list-absent .ensures)

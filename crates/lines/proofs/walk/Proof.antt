@@ -45,14 +45,11 @@ clear-requires c κs = search needs
 enum-told : tie.Need-enum-told
 enum-told c = search needs
 
-add-lines : tie.Need-add-lines
-add-lines c = search needs
-
 list-requires : tie.Need-list-requires
-list-requires c κs = search needs
+list-requires c κs = let clean = c .before .before in clean .before .before .come .ensures .1 .listed (clean .enum-told .given .1)
 
-parted-by-requires : tie.Need-parted-by-requires
-parted-by-requires c κs = search needs
+counted-requires : tie.Need-counted-requires
+counted-requires c κs = let clean = c .before .before .before in clean .before .before .come .ensures .1 .passed (clean .enum-told .given .1)
 
 returns : tie.Need-returns
 returns c =
@@ -62,11 +59,19 @@ returns c =
 
 returns-2 : tie.Need-returns-2
 returns-2 c =
-    let clean = c .before .before .before .before .before in
+    let clean = c .before .before .before .before in
     let come = clean .before .before in
-    let is = come .come .ensures in
-    let e = clean .enum-told .given .1 in
-    clean-told (text come) (bad come) _ _ (sym e ∙ is .0) (c .parted-by .ensures ∙ is .1 .parted e) (c .before .list .ensures)
+    clean-told (text come) (bad come) _ _ (sym (clean .enum-told .given .1) ∙ come .come .ensures .0) (c .counted .ensures) (c .before .list .ensures)
 
 pub walk-spec : {M : Type 1} → statement M
-walk-spec = tie.close (tie.spec come-requires enum-known-walked clear-requires enum-told add-lines list-requires parted-by-requires returns returns-2)
+walk-spec =
+    tie.close
+    (tie.spec
+    come-requires
+    enum-known-walked
+    clear-requires
+    enum-told
+    list-requires
+    counted-requires
+    returns
+    returns-2)

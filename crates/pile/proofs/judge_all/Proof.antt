@@ -13,22 +13,19 @@ use Rattle.pile.proofs.judge_all.Statement.{statement}
 use Rattle.pile.proofs.judge_all.Tie as tie
 
 abbrev Inv-loop : tie.InvT-loop
-Inv-loop buffer places count answers₀ table i₀ answers i =
+Inv-loop buffer places count answers₀ i₀ answers i =
     (i ≤ count) × Laying answers₀ (entries buffer places count) (2 * i) answers
 
 abbrev μ-loop : tie.MeasureT-loop
-μ-loop buffer places count answers₀ table i₀ answers i = count - i
+μ-loop buffer places count answers₀ i₀ answers i = count - i
 
 -- the place of the bill in hand is there, and lies inside the buffer
 bill : (c : tie.In-loop Inv-loop μ-loop)
-    → let at-loop = c .before in let a = at-loop .before .before .before .before .before .args in
+    → let at-loop = c .before in let a = at-loop .before .before .before .before .args in
     Within (a .buffer .now) (a .places .now) (at-loop .loop .i)
 bill c =
     let at-loop = c .before in
-    at-loop .before .before .before .before .before .pre .inside (at-loop .loop .i) (c .loop-test .taken)
-
-steps-requires : tie.Need-steps-requires Inv-loop μ-loop
-steps-requires c κs = search needs
+    at-loop .before .before .before .before .pre .inside (at-loop .loop .i) (c .loop-test .taken)
 
 loop-holds : tie.Need-loop-holds Inv-loop μ-loop
 loop-holds c = (omega arith, none-laid _ _)
@@ -78,7 +75,7 @@ part-judge-bill-start : tie.Need-part-judge-bill-start Inv-loop μ-loop
 part-judge-bill-start c = search needs
 
 part-judge-bill-end : tie.Need-part-judge-bill-end Inv-loop μ-loop
-part-judge-bill-end c = omega (arith, bill (c .before .before .before) .inside)
+part-judge-bill-end c = omega (arith, bill (c .before .before) .inside)
 
 mul-judge-bill : tie.Need-mul-judge-bill Inv-loop μ-loop
 mul-judge-bill c = search needs
@@ -94,10 +91,10 @@ part-judge-bill-end-2 c = search needs
 
 judge-bill-requires : tie.Need-judge-bill-requires Inv-loop μ-loop
 judge-bill-requires c κs =
-    let in-loop = c .before .before .before .before .before in
+    let in-loop = c .before .before .before .before in
     let at-loop = in-loop .before in
-    let start = at-loop .before .before .before .before .before in
-    (at-loop .before .steps .ensures, simp (length-take, length-drop) (omega (arith, in-loop .loop-test .taken, start .pre .room, at-loop .loop .inv .1 .size)))
+    let start = at-loop .before .before .before .before in
+    simp (length-take, length-drop) (omega (arith, in-loop .loop-test .taken, start .pre .room, at-loop .loop .inv .1 .size))
 
 add-i : tie.Need-add-i Inv-loop μ-loop
 add-i c = search needs
@@ -111,17 +108,17 @@ same-length c = search needs
 returns : tie.Need-returns Inv-loop μ-loop
 returns c =
     let at-loop = c .before in
-    let a = at-loop .before .before .before .before .before .args in
+    let a = at-loop .before .before .before .before .args in
     whole (omega (arith, entries-length (a .buffer .now) (a .places .now) (a .count), c .loop-test .left)) (at-loop .loop .inv .1) .1
 
 loop-again : tie.Need-loop-again Inv-loop μ-loop
 loop-again c =
-    let in-loop = c .before .before .before .before .before .before .before .before in
+    let in-loop = c .before .before .before .before .before .before .before in
     let at-loop = in-loop .before in
-    let a = at-loop .before .before .before .before .before .args in
+    let a = at-loop .before .before .before .before .args in
     let s = spanAt (a .places .now) (at-loop .loop .i) in
     let e : s .start + s .bytes - s .start ≡ s .bytes = omega arith in
-    (omega (arith, in-loop .loop-test .taken), entry-laid _ _ _ (in-loop .loop-test .taken) (at-loop .before .before .before .before .before .pre .room) (at-loop .loop .inv .1) (rw e at (c .before .before .judge-bill .ensures)))
+    (omega (arith, in-loop .loop-test .taken), entry-laid _ _ _ (in-loop .loop-test .taken) (at-loop .before .before .before .before .pre .room) (at-loop .loop .inv .1) (rw e at (c .before .before .judge-bill .ensures)))
 
 pub judge-all-spec : {M : Type 1} → statement M
 judge-all-spec =
@@ -129,7 +126,6 @@ judge-all-spec =
     (tie.spec
     Inv-loop
     μ-loop
-    steps-requires
     loop-holds
     mul-start
     mul-start-2

@@ -6,18 +6,18 @@ use Rattle.pile.proofs.Entries.{small-entry}
 use Rattle.pile.proofs.judge_bill.Statement.{statement}
 use Rattle.pile.proofs.judge_bill.Tie as tie
 
-judge-by-requires : tie.Need-judge-by-requires
-judge-by-requires c κs = search needs
+judge-requires : tie.Need-judge-requires
+judge-requires c κs = search needs
 
 lay-entry-requires : tie.Need-lay-entry-requires
 lay-entry-requires c κs =
-    (c .before .before .before .before .before .pre .1, rw (c .before .judge-by .ensures .answer) (small-entry _))
+    (c .before .before .before .before .before .pre, rw (c .before .judge .ensures .answer) (small-entry _))
 
 same-length : tie.Need-same-length
 same-length c = search needs
 
 returns : tie.Need-returns
-returns c = c .before .before .lay-entry .ensures ∙ ap entry (c .before .before .before .before .judge-by .ensures .answer)
+returns c = c .before .before .lay-entry .ensures ∙ ap entry (c .before .before .before .before .judge .ensures .answer)
 
 pub judge-bill-spec : {M : Type 1} → statement M
-judge-bill-spec = tie.close (tie.spec judge-by-requires lay-entry-requires same-length returns)
+judge-bill-spec = tie.close (tie.spec judge-requires lay-entry-requires same-length returns)

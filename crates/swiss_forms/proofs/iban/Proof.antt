@@ -7,35 +7,8 @@ use Rattle.swiss_forms.proofs.iban.Tie as tie
 returns : tie.Need-returns
 returns c = rw (ne-eqb _ 21 (c .if1 .taken))
 
-sub-same : tie.Need-sub-same
-sub-same c = search needs
-
-part-same-start : tie.Need-part-same-start
-part-same-start c = search needs
-
-part-same-end : tie.Need-part-same-end
-part-same-end c = search needs
-
-slice-aggregate-same : tie.Need-slice-aggregate-same
-slice-aggregate-same c = search needs
-
-same-requires : tie.Need-same-requires
-same-requires c κs = search needs
-
-sub-same-2 : tie.Need-sub-same-2
-sub-same-2 c = search needs
-
-part-same-start-2 : tie.Need-part-same-start-2
-part-same-start-2 c = search needs
-
-part-same-end-2 : tie.Need-part-same-end-2
-part-same-end-2 c = search needs
-
-slice-aggregate-same-2 : tie.Need-slice-aggregate-same-2
-slice-aggregate-same-2 c = search needs
-
-same-requires-2 : tie.Need-same-requires-2
-same-requires-2 c κs = search needs
+swiss-country-requires : tie.Need-swiss-country-requires
+swiss-country-requires c κs = search needs
 
 sub-every : tie.Need-sub-every
 sub-every c = search needs
@@ -63,25 +36,15 @@ every-requires-2 c κs = search needs
 
 returns-2 : tie.Need-returns-2
 returns-2 c =
-    let at-same = c .before .before .before .before .before .before .before in
-    let at-if-1 = at-same .before .before .before in
-    rw (eq-eqb _ 21 (at-if-1 .if1 .left), at-same .same .ensures, c .before .before .before .before .same2 .ensures, c .before .before .every .ensures, c .every2 .ensures)
+    let country = c .before .before .before .before in
+    rw (eq-eqb _ 21 (country .before .if1 .left), country .swiss-country .ensures, c .before .before .every .ensures, c .every2 .ensures)
 
 pub iban-spec : {M : Type 1} → statement M
 iban-spec =
     tie.close
     (tie.spec
     returns
-    sub-same
-    part-same-start
-    part-same-end
-    slice-aggregate-same
-    same-requires
-    sub-same-2
-    part-same-start-2
-    part-same-end-2
-    slice-aggregate-same-2
-    same-requires-2
+    swiss-country-requires
     sub-every
     part-every-start
     part-every-end

@@ -1,11 +1,27 @@
--- `swiss_judge::judge` meets its contract, by those of `begin`, `steps` and `finish`. Assumes nothing.
-use Rattle.swiss_judge.proofs.AllRules.{refused-early}
+-- `swiss_judge::judge` meets its contract: what is accepted as a whole hangs on the rules about lines. Assumes nothing.
+use mathlib.Core.Bool.{true}
+use mathlib.Core.List.{List, flatten}
+use mathlib.Core.Path.{_≡_, refl}
+use lib.Dec.{lit≤}
+use Rattle.sieve.specs.Bytes.{Bytes}
+use Rattle.sieve.specs.Lines.{cut, linesOf}
+use Rattle.sieve.specs.Whole.{bare}
+use Rattle.swiss.specs.Swiss.{rules, swiss}
+use Rattle.findings.proofs.Looking.{numbered, found-nothing, found-fault}
+use Rattle.whole.proofs.Judging.{refused-before, kept, broken, counted}
 use borrow.Author.Needs.{needs}
 use Rattle.swiss_judge.proofs.judge.Statement.{statement}
 use Rattle.swiss_judge.proofs.judge.Tie as tie
 
-begin-requires : tie.Need-begin-requires
-begin-requires c κs = search needs
+rules-numbered : numbered rules ≡ true
+unfolding rules flatten numbered
+rules-numbered = refl
+
+abbrev ls : tie.Start → List Bytes
+ls c = linesOf (cut (c .args .payload .now))
+
+whole-requires : tie.Need-whole-requires
+whole-requires c κs = search needs
 
 enum-known-f : tie.Need-enum-known-f
 enum-known-f c = search needs
@@ -13,28 +29,55 @@ enum-known-f c = search needs
 enum-known-n : tie.Need-enum-known-n
 enum-known-n c = search needs
 
-steps-requires : tie.Need-steps-requires
-steps-requires c κs = search needs
+rules-requires : tie.Need-rules-requires
+unfolding swiss
+rules-requires c κs =
+    let at-start = c .before .before .before .before .before .before .before in
+    let is = rw (c .before .before .n .given .1) at (c .before .before .before .before .whole .ensures) in
+    let (listed-is, count-is) = counted (bare swiss) (at-start .args .payload .now) is (lit≤ tt) in
+    record { listed = listed-is; counted = count-is }
 
-finish-requires : tie.Need-finish-requires
-finish-requires c κs =
-    let at-steps = c .before .before in
-    record { steps = at-steps .steps .ensures; so-far = rw (at-steps .before .before .n .given .1) at (at-steps .before .before .before .before .begin .ensures) }
+clear-requires : tie.Need-clear-requires
+clear-requires c κs = search needs
+
+fault-of-requires : tie.Need-fault-of-requires
+fault-of-requires c κs = search needs
 
 returns : tie.Need-returns
-returns c = refused-early (rw (c .before .f .given .1) at (c .before .before .before .begin .ensures))
+unfolding swiss
+returns c =
+    let at-test = c .before .before .before in
+    let at-start = at-test .before .before .before .before .before .before .before .before .before .before in
+    let is = rw (at-test .before .before .before .before .before .n .given .1) at (at-test .before .before .before .before .before .before .before .whole .ensures) in
+    let found = at-test .before .before .rules .ensures in
+    let is-fault = rw (← found, ← c .fault-of .ensures) at (found-fault (ls at-start) rules rules-numbered (rw found at (at-test .if1 .taken))) in
+    broken (bare swiss) rules (at-start .args .payload .now) is (c .fault-of .result) is-fault refl (c .before .clear .ensures)
 
 returns-2 : tie.Need-returns-2
-returns-2 c = search needs
+unfolding swiss
+returns-2 c =
+    let at-start = c .before .before .before .before .before .before in
+    refused-before (bare swiss) rules (at-start .args .payload .now) (rw (c .before .f .given .1) at (c .before .before .before .whole .ensures))
+
+returns-3 : tie.Need-returns-3
+unfolding swiss
+returns-3 c =
+    let at-whole = c .before .before .before .before .before .before .before in
+    let at-start = c .before .before .before .before .before .before .before .before .before .before in
+    let is = rw (c .before .before .before .before .before .n .given .1) at (at-whole .whole .ensures) in
+    let found = c .before .before .rules .ensures in
+    kept (bare swiss) rules (at-start .args .payload .now) is (found-nothing (ls at-start) rules rules-numbered (rw found at (c .if1 .left)))
 
 pub judge-spec : {M : Type 1} → statement M
 judge-spec =
     tie.close
     (tie.spec
-    begin-requires
+    whole-requires
     enum-known-f
     enum-known-n
-    steps-requires
-    finish-requires
+    rules-requires
+    clear-requires
+    fault-of-requires
     returns
-    returns-2)
+    returns-2
+    returns-3)

@@ -1,14 +1,17 @@
--- `swiss_rules::back` meets its contract: group after group, and then rule after rule. Assumes nothing.
+-- `swiss_rules::back` meets its contract: group after group. Assumes nothing.
+use lib.Dec.{lit≤}
 use mathlib.Core.List.{List, [], _∷_, _++_, flatten}
 use mathlib.Core.Path.{_≡_, refl, _∙_}
 use Rattle.sieve.specs.Bytes.{Bytes}
 use Rattle.sieve.specs.Lines.{cut, linesOf}
-use lib.Dec.{lit≤}
-use Rattle.swiss.specs.Swiss.{reference, information, procedures, pairing, together}
+use Rattle.sieve.specs.Rules.{Rule, isLast}
+use Rattle.swiss.specs.Limits.{procedureMost}
+use Rattle.swiss.specs.Swiss.{reference, information, pairing, together}
+use Rattle.findings.specs.declared.Finding.{Finding}
 use Rattle.findings.specs.Findings.{finds}
-use Rattle.findings.proofs.Looking.{numbered, Steps, steps-find, group-stops, group-passed}
+use Rattle.findings.proofs.Looking.{kept, looked, numbered, group-stops, group-passed, chain-stops, chain-passed}
 use Rattle.swiss_rules.specs.Parts.{back}
-use Rattle.swiss_rules.proofs.Groups.{of-reference, of-information}
+use Rattle.swiss_rules.proofs.Groups.{of-reference, of-information, of-text}
 use borrow.Author.Needs.{needs}
 use Rattle.swiss_rules.proofs.back.Statement.{statement}
 use Rattle.swiss_rules.proofs.back.Tie as tie
@@ -16,11 +19,44 @@ use Rattle.swiss_rules.proofs.back.Tie as tie
 abbrev ls : tie.Start → List Bytes
 ls c = linesOf (cut (c .args .payload .now))
 
+-- the groups of lines 33 and 34, and of the lines that go together
+
+abbrev of-33 : List Rule
+of-33 = of-text 33 (isLast 33) procedureMost
+
+abbrev of-34 : List Rule
+of-34 = of-text 34 (isLast 34) procedureMost
+
+abbrev of-several : List Rule
+of-several = pairing ∷ together ∷ []
+
 reference-is : (c : tie.After-reference) → c .reference .result ≡ finds reference (ls (c .before .before .before .before))
 reference-is c = rw (c .before .line2 .ensures, c .before .before .line .ensures) at (c .reference .ensures) ∙ of-reference _
 
 information-is : (c : tie.After-information) → c .information .result ≡ finds information (ls (c .before .before .before .before .before .before .before .before .before .before))
 information-is c = rw (c .before .line5 .ensures, c .before .before .line4 .ensures, c .before .before .before .line3 .ensures) at (c .information .ensures) ∙ of-information _
+
+line-33-is : (c : tie.After-text) → c .text .result ≡ looked kept of-33 (ls (c .before .before .before .before .before .before .before .before .before .before .before .before .before .before))
+unfolding looked
+line-33-is c = rw (c .before .line6 .ensures, c .before .before .before .before .before .before .before .before .before .before .before .before .before .before .pre .counted) at (c .text .ensures)
+
+line-34-is : (c : tie.After-text2) → c .text2 .result ≡ looked kept of-34 (ls (c .before .before .before .before .before .before .before .before .before .before .before .before .before .before .before .before .before .before))
+unfolding looked
+line-34-is c = rw (c .before .line7 .ensures, c .before .before .before .before .before .before .before .before .before .before .before .before .before .before .before .before .before .before .pre .counted) at (c .text2 .ensures)
+
+-- what is found behind a group that keeps its rules
+
+behind-reference : (c : tie.Else1) {g : Finding} → let s = c .before .before .before .before .before .before in g ≡ finds (information ++ of-33 ++ of-34 ++ of-several) (ls s) → g ≡ finds back (ls s)
+unfolding back flatten numbered
+behind-reference c = group-passed _ reference _ refl (reference-is (c .before .before)) (c .if1 .left)
+
+behind-information : (c : tie.Else2) {g : Finding} → let s = c .before .before .before .before .before .before .before .before .before .before .before .before in g ≡ finds (of-33 ++ of-34 ++ of-several) (ls s) → g ≡ finds back (ls s)
+unfolding numbered
+behind-information c e = behind-reference (c .before .before .before .before .before .before) (group-passed _ information _ refl (information-is (c .before .before)) (c .if2 .left) e)
+
+behind-33 : (c : tie.Else3) {g : Finding} → let s = c .before .before .before .before .before .before .before .before .before .before .before .before .before .before .before .before in g ≡ finds (of-34 ++ of-several) (ls s) → g ≡ finds back (ls s)
+unfolding numbered
+behind-33 c e = behind-information (c .before .before .before .before) (chain-passed _ of-33 _ refl (line-33-is (c .before .before)) (c .if3 .left) e)
 
 line-requires : tie.Need-line-requires
 line-requires c κs = search needs
@@ -48,95 +84,36 @@ information-requires : tie.Need-information-requires
 information-requires c κs = search needs
 
 returns-2 : tie.Need-returns-2
-unfolding back flatten numbered
-returns-2 c = let at-information = c .before .before in group-passed _ reference _ refl (reference-is (at-information .before .before .before .before .before .before)) (at-information .before .before .before .before .if1 .left) (group-stops _ information _ (information-is at-information) (c .if2 .taken))
+returns-2 c = behind-reference (c .before .before .before .before .before .before) (group-stops _ information _ (information-is (c .before .before)) (c .if2 .taken))
 
 line-requires-6 : tie.Need-line-requires-6
-line-requires-6 c κs =
-    let at-start = c .before .before .before .before .before .before .before .before .before .before .before .before in
-    (at-start .pre .1 .listed, lit≤ tt, lit≤ tt)
+line-requires-6 c κs = search needs
 
-filled-requires : tie.Need-filled-requires
-filled-requires c κs = search needs
+text-requires : tie.Need-text-requires
+text-requires c κs = search needs
 
-at-most-requires : tie.Need-at-most-requires
-at-most-requires c κs = search needs
+returns-3 : tie.Need-returns-3
+unfolding numbered
+returns-3 c = behind-information (c .before .before .before .before) (chain-stops _ of-33 _ refl (line-33-is (c .before .before)) (c .if3 .taken))
 
 line-requires-7 : tie.Need-line-requires-7
 line-requires-7 c κs =
-    let at-start = c .before .before .before .before .before .before .before .before .before .before .before .before .before .before .before in
-    (at-start .pre .1 .listed, lit≤ tt, lit≤ tt)
+    let at-start = c .before .before .before .before .before .before .before .before .before .before .before .before .before .before .before .before in
+    (at-start .pre .listed, lit≤ tt, lit≤ tt)
 
-filled-requires-2 : tie.Need-filled-requires-2
-filled-requires-2 c κs = search needs
+text-requires-2 : tie.Need-text-requires-2
+text-requires-2 c κs = search needs
 
-at-most-requires-2 : tie.Need-at-most-requires-2
-at-most-requires-2 c κs = search needs
+returns-4 : tie.Need-returns-4
+unfolding numbered
+returns-4 c = behind-33 (c .before .before .before .before) (chain-stops _ of-34 _ refl (line-34-is (c .before .before)) (c .if4 .taken))
 
-line-requires-8 : tie.Need-line-requires-8
-line-requires-8 c κs =
-    let at-start = c .before .before .before .before .before .before .before .before .before .before .before .before .before .before .before .before .before .before in
-    (at-start .pre .1 .listed, lit≤ tt, lit≤ tt)
+together-requires : tie.Need-together-requires
+together-requires c κs = c .before .before .before .before .before .before .before .before .before .before .before .before .before .before .before .before .before .before .before .before .pre .listed
 
-line-requires-9 : tie.Need-line-requires-9
-line-requires-9 c κs =
-    let at-start = c .before .before .before .before .before .before .before .before .before .before .before .before .before .before .before .before .before .before .before in
-    (at-start .pre .1 .listed, lit≤ tt, lit≤ tt)
-
-paired-requires : tie.Need-paired-requires
-paired-requires c κs = search needs
-
-rule-requires : tie.Need-rule-requires
-rule-requires c κs = search needs
-
-longer-together-requires : tie.Need-longer-together-requires
-longer-together-requires c κs = search needs
-
-rule-requires-2 : tie.Need-rule-requires-2
-rule-requires-2 c κs = search needs
-
-returns-3 : tie.Need-returns-3
-unfolding back flatten numbered Steps
-returns-3 c =
-    let at-fourth = c .before .before .before .before .before .before in
-    let at-third = at-fourth .before .before .before in
-    let at-information = at-third .before .before .before .before .before in
-    let at-reference = at-information .before .before .before .before .before .before in
-    let count = at-reference .before .before .before .before .pre .1 .counted in
-    let kind = at-reference .before .before .line .ensures in
-    let message = at-information .before .before .before .line3 .ensures in
-    let billing = at-information .before .before .line4 .ensures in
-    let third = at-third .before .before .line6 .ensures in
-    let fourth = at-fourth .before .before .line7 .ensures in
-    let rest =
-    steps-find (procedures ++ (pairing ∷ together ∷ [])) _ _ refl ((
-      _,
-      rw (third, count) at (at-third .before .filled .ensures),
-      (
-        _,
-        rw third at (at-third .at-most .ensures),
-        (
-          _,
-          rw (fourth, count) at (at-fourth .before .filled2 .ensures),
-          (
-            _,
-            rw fourth at (at-fourth .at-most2 .ensures),
-            (
-              _,
-              rw (c .before .before .before .paired .ensures, c .before .before .before .before .before .line8 .ensures, c .before .before .before .before .line9 .ensures, kind) at (c .before .before .rule .ensures),
-              (
-                _,
-                rw (c .before .longer-together .ensures, message, billing) at (c .rule2 .ensures),
-                refl,
-              ),
-            ),
-          ),
-        ),
-      ),
-    ))
-    in
-    group-passed _ reference _ refl (reference-is at-reference) (at-information .before .before .before .before .if1 .left)
-    (group-passed _ information (procedures ++ (pairing ∷ together ∷ [])) refl (information-is at-information) (at-third .before .before .before .if2 .left) rest)
+returns-5 : tie.Need-returns-5
+unfolding numbered
+returns-5 c = behind-33 (c .before .before .before .before .before) (chain-passed _ of-34 of-several refl (line-34-is (c .before .before .before)) (c .before .if4 .left) (c .together .ensures))
 
 pub back-spec : {M : Type 1} → statement M
 back-spec =
@@ -152,15 +129,10 @@ back-spec =
     information-requires
     returns-2
     line-requires-6
-    filled-requires
-    at-most-requires
+    text-requires
+    returns-3
     line-requires-7
-    filled-requires-2
-    at-most-requires-2
-    line-requires-8
-    line-requires-9
-    paired-requires
-    rule-requires
-    longer-together-requires
-    rule-requires-2
-    returns-3)
+    text-requires-2
+    returns-4
+    together-requires
+    returns-5)

@@ -1,7 +1,11 @@
 -- `swiss_rules::information` meets its contract: rule after rule. Assumes nothing.
-use mathlib.Core.Path.{refl}
-use Rattle.swiss.specs.Swiss.{information}
-use Rattle.findings.proofs.Looking.{looked, numbered, looked-finds}
+use mathlib.Core.List.{[], _∷_}
+use mathlib.Core.Path.{refl, _∙_}
+use Rattle.sieve.specs.Kinds.{fixed, atMost, formed}
+use Rattle.sieve.specs.Rules.{has}
+use Rattle.swiss.specs.Forms.{billing}
+use Rattle.swiss.specs.Limits.{messageMost, trailer, billingMost}
+use Rattle.findings.proofs.Looking.{looked, numbered, looked-finds, chain-stops, chain-passed}
 use borrow.Author.Needs.{needs}
 use Rattle.swiss_rules.proofs.information.Statement.{statement}
 use Rattle.swiss_rules.proofs.information.Tie as tie
@@ -9,11 +13,21 @@ use Rattle.swiss_rules.proofs.information.Tie as tie
 at-most-requires : tie.Need-at-most-requires
 at-most-requires c κs = search needs
 
+returns : tie.Need-returns
+unfolding looked numbered
+returns c = chain-stops _ (atMost messageMost 30 ∷ []) _ refl (c .before .before .at-most .ensures) (c .if1 .taken)
+
 slice-aggregate-fixed : tie.Need-slice-aggregate-fixed
 slice-aggregate-fixed c = search needs
 
 fixed-requires : tie.Need-fixed-requires
 fixed-requires c κs = search needs
+
+returns-2 : tie.Need-returns-2
+unfolding looked numbered
+returns-2 c =
+    chain-passed _ (atMost messageMost 30 ∷ []) _ refl (c .before .before .before .before .before .before .at-most .ensures) (c .before .before .before .before .if1 .left)
+    (chain-stops _ (fixed 31 trailer ∷ []) _ refl (c .before .before .fixed .ensures) (c .if2 .taken))
 
 at-most-requires-2 : tie.Need-at-most-requires-2
 at-most-requires-2 c κs = search needs
@@ -24,18 +38,25 @@ billing-requires c κs = search needs
 formed-requires : tie.Need-formed-requires
 formed-requires c κs = search needs
 
-returns : tie.Need-returns
+returns-3 : tie.Need-returns-3
 unfolding looked numbered
-returns c = rw (c .formed .ensures, c .before .billing .ensures, c .before .before .at-most2 .ensures, c .before .before .before .fixed .ensures, c .before .before .before .before .before .at-most .ensures) (looked-finds information _ refl)
+returns-3 c =
+    let at-trailer = c .before .before .before .before .before in
+    let at-billing = rw (c .before .billing .ensures, c .before .before .at-most2 .ensures) at (c .formed .ensures) in
+    chain-passed _ (atMost messageMost 30 ∷ []) _ refl (at-trailer .before .before .before .before .at-most .ensures) (at-trailer .before .before .if1 .left)
+    (chain-passed _ (fixed 31 trailer ∷ []) _ refl (at-trailer .fixed .ensures) (c .before .before .before .if2 .left)
+    (at-billing ∙ looked-finds (atMost billingMost 32 ∷ formed 32 (has 32 billing) ∷ []) _ refl))
 
 pub information-spec : {M : Type 1} → statement M
 information-spec =
     tie.close
     (tie.spec
     at-most-requires
+    returns
     slice-aggregate-fixed
     fixed-requires
+    returns-2
     at-most-requires-2
     billing-requires
     formed-requires
-    returns)
+    returns-3)
