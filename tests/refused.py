@@ -17,8 +17,8 @@ LOGS = ROOT / 'target' / 'must-fail'
 
 # The prover says of a refusal where it stands, and what is wrong there.
 REFUSAL = re.compile(r'^(?:note: )?(?P<file>\S+?):(?P<line>\d+):\d+: (?P<error>error: )?(?P<wrong>.*)', re.MULTILINE)
-CONSEQUENCE = re.compile(r'was not admitted')  # of another refusal, which has its own line
-NOT_A_FACT = re.compile(r'has no (?:field )?`|cannot be named|not in scope')
+CONSEQUENCE = re.compile(r'was not admitted|note: large solution')  # of another refusal, or no refusal
+NOT_A_FACT = re.compile(r'has no (?:field )?`|cannot be named|not in scope|pattern needs a function')
 STILL_HOLDS = 'was admitted by the kernel'  # what a log says of a need that is refused and yet holds
 ROW = re.compile(r'^\| [^|]+ \| `(?P<edit>[^`]+)` \| `(?P<place>[^`]+)`', re.MULTILINE)
 
