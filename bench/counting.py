@@ -12,6 +12,7 @@ that repeats itself, as `rep movsb`, counts once for each time.
 
 import ctypes
 import os
+import re
 import subprocess
 import tempfile
 from pathlib import Path
@@ -19,6 +20,7 @@ from pathlib import Path
 import kit
 
 TIMES = 10
+ADDRESS = re.compile(rb'^Trace .*?/(\w+)/', re.MULTILINE)
 PTRACE_TRACEME, PTRACE_SINGLESTEP = 0, 9
 ADDR_NO_RANDOMIZE = 0x40000
 
@@ -53,6 +55,19 @@ def noted(program, words, file, log):
     subprocess.run(kit.command(program, *words, emulator_options=options), stdin=file,
                    stdout=subprocess.DEVNULL, check=True, env=kit.environment())
     return log.read_bytes().count(b'Trace ')
+
+
+def trace(program, words, data):
+    """The addresses of the instructions that a program runs, in their order. The emulator's log has
+    them, so this is for Arm alone."""
+    if not kit.EMULATOR.exists():
+        raise SystemExit('only the emulator notes addresses, and this machine has none')
+    with tempfile.TemporaryDirectory() as folder:
+        given, log = Path(folder) / 'input', Path(folder) / 'log'
+        given.write_bytes(data)
+        with given.open('rb') as file:
+            noted(program, words, file, log)
+        return ADDRESS.findall(log.read_bytes())
 
 
 def stepped(command, file):

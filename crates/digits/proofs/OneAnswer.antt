@@ -26,9 +26,3 @@ one-decimal-of κs a x y v w h k = (h ∙ sym k, refl)
 
 pub one-checks97-with : OneAnswer fn.checks97_with.ended fn.checks97_with.Reads.Learnt
 one-checks97-with κs a x y v w h k = (h ∙ sym k, refl)
-
-pub one-check-digit : OneAnswer fn.check_digit.ended fn.check_digit.Reads.Learnt
-one-check-digit κs a x y v w h k = (h ∙ sym k, refl)
-
-pub one-checks10 : OneAnswer fn.checks10.ended fn.checks10.Reads.Learnt
-one-checks10 κs a x y v w h k = (h ∙ sym k, refl)

@@ -15,7 +15,7 @@ use Rattle.sieve.specs.Mod97.{value, number}
 use Rattle.digits.specs.declared.Decimal.{Decimal}
 use Rattle.digits.specs.declared.Decimal.the-variants.{Number, Other}
 use Rattle.digits.specs.Decimals.{decimalOf}
-use Rattle.digits.proofs.Folds.{step, end}
+use Rattle.sieve.proofs.Folds.{step, end}
 use Rattle.digits.proofs.Remainders.{numbers}
 
 -- the first i characters of s are digits, and make n: what is left decides

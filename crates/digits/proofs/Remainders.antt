@@ -11,7 +11,7 @@ use Rattle.sieve.specs.Bytes.{Bytes}
 use Rattle.sieve.specs.Letters.{digit}
 use Rattle.sieve.specs.Mod97.{value, onto, number}
 use Rattle.digits.specs.Weight.{weight}
-use Rattle.digits.proofs.Folds.{Fold, step, end, after}
+use Rattle.sieve.proofs.Folds.{Fold, step, end, after}
 
 pub numbers : Fold number onto
 unfolding number

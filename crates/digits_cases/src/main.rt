@@ -18,9 +18,9 @@ fn write_answer(text: &[u8]) {
         b' ',
         flag(digits::checks97(text)),
         b' ',
-        digits::check_digit(text),
+        mod10::check_digit(text),
         b' ',
-        flag(digits::checks10(text)),
+        flag(mod10::checks10(text)),
         b'\n',
     ];
     io::write_all(STDOUT_FILENO, &rest);

@@ -1,10 +1,10 @@
 // The forms that the lines of a girocode take.
+use characters::Test;
+use characters::all;
 use girocode::limits;
 use runs::Kind;
 use runs::every;
 use runs::same;
-use text::Test;
-use text::all;
 ghost use mathlib.Core.Path.{_≡_};
 ghost use Rattle.girocode.specs.Forms.{unreadCoding, bic, iban, whole, fraction, parted, amount, plain};
 

@@ -26,12 +26,12 @@ use Rattle.sieve.proofs.Widths.{width-break}
 use Rattle.sieve.proofs.Charsets.{set-lawful, in-each-set}
 use Rattle.runs.proofs.ByteByByte.{next}
 use Rattle.text.specs.declared.LineAt.{LineAt}
-use Rattle.text.specs.declared.Test.the-variants.{PlainOrDelete, NoDelete}
+use Rattle.characters.specs.declared.Test.the-variants.{PlainOrDelete, NoDelete}
 use Rattle.text.specs.Results.{IsLineAt}
 use Rattle.text.specs.LinesIn.{linesIn}
-use Rattle.text.specs.Runs.{passing, run, accents, inRow}
-use Rattle.text.proofs.Accents.{row-goes-on, accent-width}
-use Rattle.text.proofs.Runs.{goes-on, in-run}
+use Rattle.characters.specs.Runs.{passing, run, accents, charactersIn}
+use Rattle.characters.proofs.Accents.{row-goes-on, accent-width}
+use Rattle.characters.proofs.Runs.{goes-on, in-run}
 use Rattle.text.proofs.FirstLine.{stops, ends}
 use Rattle.text.proofs.LinesAt.{within as line-within}
 use Rattle.lines.specs.declared.Passed.{Passed}
@@ -243,7 +243,7 @@ accents-passed s l at passed (suc n) e here =
     rw q (accents-passed s l (at + 2) passed n more (character Latin s l at passed here 2 (sym (accent-width s at h one)) (λ z. omega arith)))
 
 -- what is told of a row at a place is passed, or is that no character begins there
-pub row-passed : (set : Charset) (s : Bytes) (l : List ℕ) (at : ℕ) (passed : Passed) (n : ℕ) → n ≡ inRow set (drop at s) → n ≢ 0 → Here set s l at passed → Here set s l (at + n) passed
+pub row-passed : (set : Charset) (s : Bytes) (l : List ℕ) (at : ℕ) (passed : Passed) (n : ℕ) → n ≡ charactersIn set (drop at s) → n ≢ 0 → Here set s l at passed → Here set s l (at + n) passed
 row-passed Iso8859 s l at passed n e h here = character Iso8859 s l at passed here n e h
 row-passed Latin s l at passed n e h here = go (eqb (accents (drop at s)) 0) refl
   where
@@ -251,7 +251,7 @@ row-passed Latin s l at passed n e h here = go (eqb (accents (drop at s)) 0) ref
     go true q = character Latin s l at passed here n (rw q at e) h
     go false q = rw (rw q at e) (accents-passed s l at passed (accents (drop at s)) refl here)
 
-pub no-row : (set : Charset) (t : Bytes) → inRow set t ≡ 0 → ofSet set t ≡ 0
+pub no-row : (set : Charset) (t : Bytes) → charactersIn set t ≡ 0 → ofSet set t ≡ 0
 no-row Iso8859 t e = e
 no-row Latin t e = go (eqb (accents t) 0) refl
   where

@@ -1,11 +1,11 @@
 // The walk over a payload: its characters, its breaks, and where its lines lie; and each line, by the list of places.
+use characters::characters_in;
+use characters::first_delete;
+use characters::plain_end;
 use sieve::Break;
 use sieve::Charset;
-use text::characters_in;
 use text::feed_after;
-use text::first_delete;
 use text::line_at;
-use text::plain_end;
 ghost use mathlib.Core.Path.{_≡_};
 ghost use Prim.Native.Nat.{_≤_};
 ghost use lib.ListN.{length, replicate};

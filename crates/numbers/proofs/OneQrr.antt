@@ -12,7 +12,7 @@ use Rattle.sieve.specs.Bytes.{Bytes, every}
 use Rattle.sieve.specs.Letters.{digit}
 use Rattle.sieve.specs.Mod10.{carry, checkDigit, checks10}
 use Rattle.swiss.specs.Forms.{qrr}
-use Rattle.digits.proofs.Carries.{check-digit-is-digit}
+use Rattle.mod10.proofs.Carries.{check-digit-is-digit}
 use Rattle.sieve.specs.Only.{Only}
 use Rattle.runs.proofs.Parts.{every-append}
 use Rattle.numbers.specs.Made.{zeros, qrrPart, madeQrr, QrrOf}

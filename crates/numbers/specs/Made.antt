@@ -1,16 +1,16 @@
 -- References and accounts made from their parts: which parts are of the right form, and what is made of them. Assumes nothing.
 use Prim.Native.Nat.{ℕ, _+_, _-_, _≤_}
-use mathlib.Core.Bool.{Bool, true, _&&_, _||_, not}
+use mathlib.Core.Bool.{Bool, true, _&&_, not}
 use mathlib.Core.List.{[], _∷_, _++_}
 use mathlib.Core.Path.{_≡_}
 use lib.Dec.{eqb}
 use lib.ListN.{length, take, drop}
-use Rattle.sieve.specs.Bytes.{Bytes, ascii, within, same, every}
+use Rattle.sieve.specs.Bytes.{Bytes, ascii, within, every}
 use Rattle.sieve.specs.Letters.{digit, digitOrCapital, alphanumeric}
 use Rattle.sieve.specs.Mod97.{remainder97, checks97}
 use Rattle.sieve.specs.Mod10.{checkDigit, checks10}
 use Rattle.sieve.specs.Pairs.{asTwo, duePair}
-use Rattle.swiss.specs.Forms.{iban, qrr, scor}
+use Rattle.swiss.specs.Forms.{ibanCountry, iban, qrr, scor}
 
 -- a QR reference is made from 26 digits, not all zero, and the digit that they ask for
 
@@ -53,9 +53,6 @@ abbrev pub madeScor : Bytes → Bytes
 madeScor rest = withPair (ascii "RF") rest
 
 -- an IBAN is made from CH or LI, an IID of five digits, and twelve of 0-9 A-Z
-
-abbrev pub ibanCountry : Bytes → Bool
-ibanCountry c = same c (ascii "CH") || same c (ascii "LI")
 
 abbrev pub ibanIid : Bytes → Bool
 ibanIid i = eqb (length i) 5 && every digit i

@@ -1,6 +1,6 @@
 // References and accounts of our own, made from their parts, with the check digits that are due.
-use digits::check_digit;
 use digits::remainder97_by_table;
+use mod10::check_digit;
 use runs::Kind;
 use runs::every;
 use runs::lay;

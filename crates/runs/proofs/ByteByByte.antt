@@ -1,18 +1,22 @@
--- What loops that go byte by byte lean on: what is left from a place on, and sameness. Assumes nothing.
+-- What loops that go byte by byte lean on: what is left from a place on, no byte past the end, and sameness. Assumes nothing.
 use Prim.Native.Nat.{ℕ, suc, _+_, _≤_, _<_}
 use native.Mathlib.Numerals.{add-one}
 use mathlib.Core.Bool.{true, false, _&&_, and-false}
 use mathlib.Core.List.{[], _∷_}
 use mathlib.Core.Logic.{_≢_}
-use mathlib.Core.Path.{_≡_, refl, ap}
+use mathlib.Core.Path.{_≡_, refl, sym, ap}
 use lib.Dec.{eqb}
-use lib.ListN.{length, getD, drop, drop-of-length-le}
-use lib.Seq.{drop-cons}
+use lib.ListN.{length, getD, drop, drop-of-length-le, List·getD-eq-default}
+use lib.Seq.{drop-cons, getD-drop}
 use Rattle.sieve.specs.Bytes.{Bytes, same}
 
 -- the byte at the place, and what is left after it
 pub next : (s : Bytes) (i : ℕ) → i < length s → drop i s ≡ getD s i 0 ∷ drop (i + 1) s
 next s i h = rw (add-one, drop-cons s i 0)
+
+-- past the end there is no byte
+pub past : (s : Bytes) (at k : ℕ) → length s ≤ at + k → 0 ≡ getD (drop at s) k 0
+past s at k h = rw getD-drop (sym (List·getD-eq-default s 0 h))
 
 -- two runs of bytes are the same where the next bytes are, and those after them; runs of other lengths never are
 module _ (a b : Bytes) (i : ℕ) where

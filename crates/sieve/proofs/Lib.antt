@@ -1,4 +1,5 @@
 pub mod Bounds
+pub mod Folds
 pub mod Decimals
 pub mod Pairs
 pub mod Heads

@@ -8,11 +8,13 @@ use Rattle.sieve.specs.Letters.{digit, capital, digitOrCapital, alphanumeric}
 use Rattle.swiss.specs.Limits.{firstQrIid, lastQrIid}
 use Rattle.sieve.specs.Mod97.{number}
 
+-- CH or LI
+abbrev pub ibanCountry : Bytes → Bool
+ibanCountry c = same c (ascii "CH") || same c (ascii "LI")
+
 -- CH or LI, two digits, five digits (the IID), twelve of 0-9 A-Z
 abbrev pub iban : Bytes → Bool
-iban s =
-    eqb (length s) 21 && (same (take 2 s) (ascii "CH") || same (take 2 s) (ascii "LI")) && every digit (take 7 (drop 2 s))
-    && every digitOrCapital (take 12 (drop 9 s))
+iban s = eqb (length s) 21 && ibanCountry (take 2 s) && every digit (take 7 (drop 2 s)) && every digitOrCapital (take 12 (drop 9 s))
 
 -- an IBAN whose IID makes it a QR-IBAN
 abbrev pub qrIban : Bytes → Bool

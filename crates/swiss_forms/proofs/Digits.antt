@@ -1,7 +1,7 @@
 -- An account or a reference of digits alone with right check digits has its form. Assumes nothing.
 use Prim.Native.Nat.{ℕ, _+_}
 use native.Mathlib.Omega.{arith}
-use mathlib.Core.Bool.{Bool, true, _&&_, _||_, and-eq-true-iff}
+use mathlib.Core.Bool.{Bool, true, _&&_, and-eq-true-iff}
 use mathlib.Core.Path.{_≡_, _∙_}
 use lib.Dec.{eqb}
 use lib.ListN.{length, take, drop}
@@ -11,9 +11,9 @@ use Rattle.sieve.specs.Bytes.{Bytes, ascii, within, same, every}
 use Rattle.sieve.specs.Letters.{digit, digitOrCapital, alphanumeric}
 use Rattle.sieve.specs.Mod97.{pair, checks97}
 use Rattle.sieve.proofs.Bounds.{is-within}
-use Rattle.swiss.specs.Forms.{iban, scor}
+use Rattle.swiss.specs.Forms.{ibanCountry, iban, scor}
 use Rattle.runs.proofs.Parts.{every-parted, every-part, every-weaker}
-use Rattle.swiss_forms.specs.Digits.{digitsIban, digitsScor}
+use Rattle.swiss_forms.specs.Digits.{ibanOfDigits, scorOfDigits}
 
 -- behind two characters are the pair and the rest
 pub pair-and-rest : (s : Bytes) → every digit (drop 2 s) ≡ every digit (pair s) && every digit (drop 4 s)
@@ -30,15 +30,15 @@ asked head s h =
     let (is, all) = and-eq-true-iff head (every digit (drop 2 s)) .0 t in
     (is, all, checks)
 
-pub digits-iban : (s : Bytes) → digitsIban s ≡ true → (iban s ≡ true) × (checks97 s ≡ true)
-digits-iban s h =
-    let (head, all, checks) = asked (eqb (length s) 21 && (same (take 2 s) (ascii "CH") || same (take 2 s) (ascii "LI"))) s h in
+pub iban-of-digits : (s : Bytes) → ibanOfDigits s ≡ true → (iban s ≡ true) × (checks97 s ≡ true)
+iban-of-digits s h =
+    let (head, all, checks) = asked (eqb (length s) 21 && ibanCountry (take 2 s)) s h in
     let (seven, behind) = split 7 s all in
     let (twelve, _) = every-part digit 12 (drop 9 s) behind in
     (rw (head, seven) (every-weaker digit digitOrCapital (λ x e. rw e) (take 12 (drop 9 s)) twelve), checks)
 
-pub digits-scor : (s : Bytes) → digitsScor s ≡ true → (scor s ≡ true) × (checks97 s ≡ true)
-digits-scor s h =
+pub scor-of-digits : (s : Bytes) → scorOfDigits s ≡ true → (scor s ≡ true) × (checks97 s ≡ true)
+scor-of-digits s h =
     let (head, all, checks) = asked (within 5 22 (length s) && same (take 2 s) (ascii "RF")) s h in
     let (few, rf) = and-eq-true-iff (within 5 22 (length s)) _ .0 head in
     let (low, top) = is-within 5 22 (length s) few in

@@ -9,20 +9,18 @@ use runs::same;
 use swiss::limits;
 ghost use mathlib.Core.Bool.{_&&_};
 ghost use mathlib.Core.Path.{_≡_};
-ghost use Prim.Native.Nat.{_≤_};
-ghost use lib.ListN.{length, take, drop};
+ghost use lib.ListN.{take, drop};
 ghost use Rattle.sieve.specs.Bytes.{every};
 ghost use Rattle.sieve.specs.Letters.{digit};
-ghost use Rattle.swiss.specs.Forms.{iban, qrIban, country, amount, billing, qrr, scor};
+ghost use Rattle.swiss.specs.Forms.{ibanCountry, iban, qrIban, country, amount, billing, qrr, scor};
 ghost use Rattle.sieve.specs.Mod97.{number, checks97};
-ghost use Rattle.swiss_forms.specs.Digits.{swissCountry, digitsIban, digitsScor, BehindPair};
+ghost use Rattle.swiss_forms.specs.Digits.{ibanOfDigits, scorOfDigits, IsRestOf};
 
-// Whether a text begins with CH or LI.
-fn swiss_country(s: &[u8]) -> bool
-    requires { ⌜ 2 ≤ length (now s) ⌝ }
-    ensures { λ r. ⌜ r ≡ swissCountry (now (s .entry)) ⌝ }
+// CH or LI.
+fn iban_country(c: &[u8]) -> bool
+    ensures { λ r. ⌜ r ≡ ibanCountry (now (c .entry)) ⌝ }
 {
-    same(&s[0..2], b"CH") | same(&s[0..2], b"LI")
+    same(c, b"CH") | same(c, b"LI")
 }
 
 // CH or LI, two digits, five digits (the IID), twelve of 0-9 A-Z.
@@ -32,7 +30,7 @@ pub fn iban(s: &[u8]) -> bool
     if s.len() != 21 {
         return false;
     }
-    swiss_country(s) & every(Kind::Digit, &s[2..9]) & every(Kind::DigitOrCapital, &s[9..21])
+    iban_country(&s[0..2]) & every(Kind::Digit, &s[2..9]) & every(Kind::DigitOrCapital, &s[9..21])
 }
 
 // The number that characters 5 to 9 of a line stand for: the IID, where the line is an IBAN.
@@ -113,7 +111,7 @@ pub fn scor(s: &[u8]) -> bool
 // Whether digits alone are behind two characters, and the check digits are right. Behind the pair are at most 18, which
 // were read as one number.
 fn digits_right(s: &[u8], rest: Decimal) -> bool
-    requires { ⌜ BehindPair (now s) rest ⌝ }
+    requires { ⌜ IsRestOf (now s) rest ⌝ }
     ensures { λ r. ⌜ r ≡ every digit (drop 2 (now (s .entry))) && checks97 (now (s .entry)) ⌝ }
 {
     match rest {
@@ -124,12 +122,12 @@ fn digits_right(s: &[u8], rest: Decimal) -> bool
 
 // CH or LI, and digits alone behind it, with right check digits: an account as most have it, asked in one go.
 pub fn iban_right(s: &[u8]) -> bool
-    ensures { λ r. ⌜ r ≡ digitsIban (now (s .entry)) ⌝ }
+    ensures { λ r. ⌜ r ≡ ibanOfDigits (now (s .entry)) ⌝ }
 {
     if s.len() != 21 {
         return false;
     }
-    if swiss_country(s) {
+    if iban_country(&s[0..2]) {
         return digits_right(s, decimal_of(&s[4..21]));
     }
     false
@@ -137,7 +135,7 @@ pub fn iban_right(s: &[u8]) -> bool
 
 // The same of a creditor reference: RF, and digits alone behind it, with right check digits.
 pub fn scor_right(s: &[u8]) -> bool
-    ensures { λ r. ⌜ r ≡ digitsScor (now (s .entry)) ⌝ }
+    ensures { λ r. ⌜ r ≡ scorOfDigits (now (s .entry)) ⌝ }
 {
     if s.len() < 5 {
         return false;

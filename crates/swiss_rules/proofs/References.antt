@@ -13,14 +13,14 @@ use Rattle.swiss.specs.Forms.{qrr, scor}
 use Rattle.swiss.specs.Limits.{qrReference, creditorReference, noReference}
 use Rattle.swiss.specs.Swiss.{reference}
 use Rattle.findings.specs.Findings.{finds, from}
-use Rattle.swiss_rules.specs.Parts.{numbered29}
+use Rattle.swiss_rules.specs.Parts.{referenceOf}
 
 module _ (kind l : Bytes) where
-  pub creditor : same kind (ascii creditorReference) ≡ true → finds (numbered29 scor checks97) (from 29 (l ∷ [])) ≡ finds reference (from 28 (kind ∷ l ∷ []))
+  pub creditor : same kind (ascii creditorReference) ≡ true → finds (referenceOf scor checks97) (from 29 (l ∷ [])) ≡ finds reference (from 28 (kind ∷ l ∷ []))
   unfolding finds first
   creditor h = rw (same-is kind (ascii creditorReference) h)
 
-  pub qr : same kind (ascii qrReference) ≡ true → finds (numbered29 qrr checks10) (from 29 (l ∷ [])) ≡ finds reference (from 28 (kind ∷ l ∷ []))
+  pub qr : same kind (ascii qrReference) ≡ true → finds (referenceOf qrr checks10) (from 29 (l ∷ [])) ≡ finds reference (from 28 (kind ∷ l ∷ []))
   unfolding finds first
   qr h = rw (same-is kind (ascii qrReference) h)
 

@@ -1,6 +1,6 @@
--- The list of rules, in three parts; an address that may be absent, one that is there and one that is not; a reference by its type. Assumes nothing.
+-- The list of rules, in three parts; what is found in one line; an address that may be absent, one that is there and one that is not; a reference by its type. Assumes nothing.
 use Prim.Native.Nat.{ℕ, zero, suc, _+_}
-use mathlib.Core.Bool.{Bool, _&&_}
+use mathlib.Core.Bool.{Bool, _&&_, not}
 use mathlib.Core.List.{List, [], _∷_, flatten}
 use mathlib.Core.Option.{none}
 use lib.Dec.{ltb}
@@ -17,6 +17,10 @@ use Rattle.findings.specs.Findings.{small, after}
 -- what is found in a line of at most so many characters, which is not empty when that is asked
 abbrev pub textFound : Bytes → ℕ → Bool → ℕ → Finding
 textFound l n when most = after (after (small none) (when && noText l) 8 n) (ltb most (characters l)) 9 n
+
+-- what is found in a line that must be filled, of its form and with right check digits
+abbrev pub numberFound : Bytes → ℕ → Bool → Bool → Finding
+numberFound l n form check = after (after (after (small none) (noText l) 8 n) (not (noText l) && not form) 10 n) (not check) 11 n
 
 -- an address that may be absent is, where its first line is empty
 abbrev pub absentIf : Bool → ℕ → When
@@ -46,9 +50,9 @@ emptyFrom n (suc k) = empty n always ∷ emptyFrom (n + 1) k
 abbrev pub vacant : ℕ → List Rule
 vacant n = emptyFrom n 7
 
--- line 29, of a form and with check digits
-abbrev pub numbered29 : (Bytes → Bool) → (Bytes → Bool) → List Rule
-numbered29 form check = filled 29 always ∷ formed 29 (has 29 form) ∷ checked 29 (has 29 check) ∷ []
+-- the reference on line 29, of a form and with check digits
+abbrev pub referenceOf : (Bytes → Bool) → (Bytes → Bool) → List Rule
+referenceOf form check = filled 29 always ∷ formed 29 (has 29 form) ∷ checked 29 (has 29 check) ∷ []
 
 -- lines 1 to 11
 unfoldable pub front : List Rule

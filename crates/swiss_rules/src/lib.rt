@@ -1,6 +1,5 @@
 // The rules about a bill's lines, group by group of lines, in the order of the sieve. A group takes the lines that it is
 // about; those of seven lines take them out of the payload one by one. Once a rule is broken, later groups are left out.
-use digits::checks10;
 use digits::checks97;
 use findings::Finding;
 use findings::KEPT;
@@ -12,6 +11,7 @@ use findings::fixed;
 use findings::formed;
 use findings::rule;
 use lines::line;
+use mod10::checks10;
 use runs::longer_together;
 use runs::same;
 use swiss::limits;
@@ -25,7 +25,7 @@ ghost use Rattle.swiss.specs.Forms.{qrr, scor};
 ghost use Rattle.swiss.specs.Swiss.{header, account, address, payment, reference, information, paired, pairing, together, rules};
 ghost use Rattle.findings.specs.Findings.{finds, from};
 ghost use Rattle.lines.specs.Listed.{listed, Counted};
-ghost use Rattle.swiss_rules.specs.Parts.{absentIf, textFound, addressee, locality, vacant, numbered29, front, middle, back};
+ghost use Rattle.swiss_rules.specs.Parts.{absentIf, textFound, numberFound, addressee, locality, vacant, referenceOf, front, middle, back};
 
 // Lines 1 to 3.
 pub fn header(kind: &[u8], version: &[u8], coding: &[u8]) -> Finding
@@ -42,6 +42,15 @@ pub fn header(kind: &[u8], version: &[u8], coding: &[u8]) -> Finding
     fixed(KEPT, coding, 3, &limits::CODING)
 }
 
+// The number on line n, an account's or a reference's: not empty, of its form and with right check digits.
+fn number(l: &[u8], n: usize, form: bool, check: bool) -> Finding
+    ensures { λ r. ⌜ r ≡ numberFound (now (l .entry)) n form check ⌝ }
+{
+    let f = filled(KEPT, l, n, true);
+    let f = formed(f, l, n, form);
+    checked(f, n, check)
+}
+
 // Line 4. Most accounts have digits alone, and are right.
 pub fn account(l: &[u8]) -> Finding
     ensures { λ r. ⌜ r ≡ finds account (from 4 (now (l .entry) ∷ [])) ⌝ }
@@ -49,9 +58,7 @@ pub fn account(l: &[u8]) -> Finding
     if swiss_forms::iban_right(l) {
         return KEPT;
     }
-    let f = filled(KEPT, l, 4, true);
-    let f = formed(f, l, 4, swiss_forms::iban(l));
-    checked(f, 4, checks97(l))
+    number(l, 4, swiss_forms::iban(l), checks97(l))
 }
 
 // A line of at most so many characters, which is not empty when that is asked.
@@ -176,23 +183,19 @@ fn payment(amount: &[u8], currency: &[u8]) -> Finding
 
 // Line 29 under QRR.
 fn qr_reference(l: &[u8]) -> Finding
-    ensures { λ r. ⌜ r ≡ finds (numbered29 qrr checks10) (from 29 (now (l .entry) ∷ [])) ⌝ }
+    ensures { λ r. ⌜ r ≡ finds (referenceOf qrr checks10) (from 29 (now (l .entry) ∷ [])) ⌝ }
 {
-    let f = filled(KEPT, l, 29, true);
-    let f = formed(f, l, 29, swiss_forms::qrr(l));
-    checked(f, 29, checks10(l))
+    number(l, 29, swiss_forms::qrr(l), checks10(l))
 }
 
 // Line 29 under SCOR. Most references have digits alone, and are right.
 fn creditor_reference(l: &[u8]) -> Finding
-    ensures { λ r. ⌜ r ≡ finds (numbered29 scor checks97) (from 29 (now (l .entry) ∷ [])) ⌝ }
+    ensures { λ r. ⌜ r ≡ finds (referenceOf scor checks97) (from 29 (now (l .entry) ∷ [])) ⌝ }
 {
     if swiss_forms::scor_right(l) {
         return KEPT;
     }
-    let f = filled(KEPT, l, 29, true);
-    let f = formed(f, l, 29, swiss_forms::scor(l));
-    checked(f, 29, checks97(l))
+    number(l, 29, swiss_forms::scor(l), checks97(l))
 }
 
 // Lines 28 and 29.

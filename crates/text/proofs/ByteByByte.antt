@@ -1,20 +1,15 @@
--- What loops that go byte by byte lean on: no byte past the end, and the first byte that passes a test. Assumes nothing.
-use Prim.Native.Nat.{ℕ, _+_, _≤_, _<_}
+-- What loops that go byte by byte lean on: the first byte that passes a test. Assumes nothing.
+use Prim.Native.Nat.{ℕ, _+_, _<_}
 use native.Mathlib.Numerals.{add-one}
 use native.Mathlib.Omega.{arith}
 use mathlib.Core.Bool.{Bool, true, false}
 use mathlib.Core.Option.{some}
 use mathlib.Core.Path.{_≡_, sym, ap}
-use lib.ListN.{length, getD, drop, List·getD-eq-default}
-use lib.Seq.{getD-drop}
+use lib.ListN.{length, getD, drop}
 use borrow.Author.Tests.{ne-eqb}
 use Rattle.sieve.specs.Bytes.{Bytes, firstSuch}
 use Rattle.sieve.specs.Lines.{ofBreak}
 use Rattle.runs.proofs.ByteByByte.{next}
-
--- past the end there is no byte
-pub past : (s : Bytes) (at k : ℕ) → length s ≤ at + k → 0 ≡ getD (drop at s) k 0
-past s at k h = rw getD-drop (sym (List·getD-eq-default s 0 h))
 
 -- the first byte that passes a test: it is the one at the place, or it is looked for after it
 module _ (f : ℕ → Bool) (s : Bytes) (i : ℕ) (h : i < length s) where

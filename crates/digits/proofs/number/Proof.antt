@@ -10,7 +10,7 @@ use lib.Seq.{getD-take}
 use borrow.Author.Tests.{ltb-true, ltb-false}
 use Rattle.sieve.specs.Bytes.{Bytes}
 use Rattle.sieve.specs.Mod97.{number}
-use Rattle.digits.proofs.Folds.{step, end}
+use Rattle.sieve.proofs.Folds.{step, end}
 use Rattle.digits.proofs.Values.{onto-small}
 use Rattle.digits.proofs.Remainders.{numbers}
 use Rattle.digits.proofs.number.Statement.{statement}

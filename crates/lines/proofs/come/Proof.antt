@@ -8,9 +8,9 @@ use lib.ListN.{length, drop}
 use Rattle.sieve.specs.declared.Charset.{Charset}
 use Rattle.sieve.specs.Bytes.{Bytes}
 use Rattle.sieve.specs.Charsets.{ofSet}
-use Rattle.text.specs.declared.Test.the-variants.{NoDelete}
-use Rattle.text.specs.Runs.{passing}
-use Rattle.text.proofs.Runs.{few as run-few}
+use Rattle.characters.specs.declared.Test.the-variants.{NoDelete}
+use Rattle.characters.specs.Runs.{passing}
+use Rattle.characters.proofs.Runs.{few as run-few}
 use Rattle.lines.specs.declared.Passed.{Passed}
 use Rattle.lines.specs.declared.Walked.the-variants.{Clean}
 use Rattle.lines.specs.Walking.{noted, onePassed, Passable}

@@ -3,7 +3,8 @@ use native.Mathlib.Omega.{arith}
 use mathlib.Core.Path.{sym, _∙_}
 use borrow.Author.Needs.{needs}
 use Rattle.sieve.specs.Letters.{digit, digitOrCapital}
-use Rattle.numbers.specs.Made.{ibanCountry, ibanIid, ibanAccount}
+use Rattle.swiss.specs.Forms.{ibanCountry}
+use Rattle.numbers.specs.Made.{ibanIid, ibanAccount}
 use Rattle.numbers.proofs.Texts.{all3, is-just}
 use Rattle.numbers.proofs.OneIban.{two-letters}
 use Rattle.numbers.proofs.Promise.{not-formed}

@@ -7,8 +7,17 @@ use Rattle.swiss_forms.proofs.iban.Tie as tie
 returns : tie.Need-returns
 returns c = rw (ne-eqb _ 21 (c .if1 .taken))
 
-swiss-country-requires : tie.Need-swiss-country-requires
-swiss-country-requires c κs = search needs
+sub-iban-country : tie.Need-sub-iban-country
+sub-iban-country c = search needs
+
+part-iban-country-start : tie.Need-part-iban-country-start
+part-iban-country-start c = search needs
+
+part-iban-country-end : tie.Need-part-iban-country-end
+part-iban-country-end c = search needs
+
+iban-country-requires : tie.Need-iban-country-requires
+iban-country-requires c κs = search needs
 
 sub-every : tie.Need-sub-every
 sub-every c = search needs
@@ -37,14 +46,17 @@ every-requires-2 c κs = search needs
 returns-2 : tie.Need-returns-2
 returns-2 c =
     let country = c .before .before .before .before in
-    rw (eq-eqb _ 21 (country .before .if1 .left), country .swiss-country .ensures, c .before .before .every .ensures, c .every2 .ensures)
+    rw (eq-eqb _ 21 (country .before .before .if1 .left), country .iban-country .ensures, c .before .before .every .ensures, c .every2 .ensures)
 
 pub iban-spec : {M : Type 1} → statement M
 iban-spec =
     tie.close
     (tie.spec
     returns
-    swiss-country-requires
+    sub-iban-country
+    part-iban-country-start
+    part-iban-country-end
+    iban-country-requires
     sub-every
     part-every-start
     part-every-end

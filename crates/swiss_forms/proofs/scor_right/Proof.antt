@@ -9,7 +9,7 @@ use Rattle.sieve.specs.Bytes.{every}
 use Rattle.sieve.specs.Letters.{digit}
 use Rattle.sieve.specs.Mod97.{checks97}
 use Rattle.runs.proofs.Parts.{rest}
-use Rattle.swiss_forms.specs.Digits.{digitsScor}
+use Rattle.swiss_forms.specs.Digits.{scorOfDigits}
 use Rattle.swiss_forms.proofs.scor_right.Statement.{statement}
 use Rattle.swiss_forms.proofs.scor_right.Tie as tie
 
@@ -53,7 +53,7 @@ digits-right-requires c κs =
 
 -- of 5 to 22 characters RF and the digits decide
 decide : (c : tie.After-same) → let s = c .before .before .before .before .before .before .args .s .now in
-    digitsScor s ≡ (c .same .result && every digit (drop 2 s) && checks97 s)
+    scorOfDigits s ≡ (c .same .result && every digit (drop 2 s) && checks97 s)
 decide c =
     let at-if-2 = c .before .before .before in
     rw (le-leb 5 _ (at-if-2 .before .if1 .left), le-leb _ 22 (at-if-2 .if2 .left), c .same .ensures)

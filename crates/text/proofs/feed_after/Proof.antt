@@ -2,7 +2,7 @@
 use native.Mathlib.Omega.{arith}
 use mathlib.Core.Path.{refl}
 use lib.Seq.{getD-drop}
-use Rattle.text.proofs.ByteByByte.{past}
+use Rattle.runs.proofs.ByteByByte.{past}
 use borrow.Author.Needs.{needs}
 use Rattle.text.proofs.feed_after.Statement.{statement}
 use Rattle.text.proofs.feed_after.Tie as tie

@@ -45,7 +45,7 @@ loop-again : tie.Need-loop-again Inv-loop μ-loop
 loop-again c =
     let l = c .before .before .before in
     let s = l .before .before .args .s .now in
-    let none : ofBreak (getD s (l .loop .i) 0) ≡ false = ⊎-elim (λ w. sym (w .2 .ensures) ∙ w .3 .left) (λ w. above-breaks _ (w .left)) (c .if1 .came) in
+    let none = ⊎-elim {C = ofBreak (getD s (l .loop .i) 0) ≡ false} (λ w. sym (w .2 .ensures) ∙ w .3 .left) (λ w. above-breaks _ (w .left)) (c .if1 .came) in
     l .loop .inv ∙ such-later ofBreak s (l .loop .i) (c .before .before .loop-test .taken) none
 
 returns-2 : tie.Need-returns-2 Inv-loop μ-loop

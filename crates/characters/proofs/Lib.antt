@@ -1,0 +1,3 @@
+pub mod Accents
+pub mod OneAnswer
+pub mod Runs
