@@ -6,9 +6,6 @@ use Rattle.characters.proofs as fn
 pub one-plain-end : OneAnswer fn.plain_end.ended fn.plain_end.Reads.Learnt
 one-plain-end κs a x y v w h k = (h ∙ sym k, refl)
 
-pub one-all : OneAnswer fn.all.ended fn.all.Reads.Learnt
-one-all κs a x y v w h k = (h ∙ sym k, refl)
-
 pub one-first-delete : OneAnswer fn.first_delete.ended fn.first_delete.Reads.Learnt
 one-first-delete κs a x y v w h k = (h ∙ sym k, refl)
 

@@ -2,7 +2,7 @@
 use Prim.Native.Nat.{ℕ, zero, suc, _+_, _-_, _≤_, _<_}
 use native.Mathlib.Nat.{zero-add}
 use native.Mathlib.Omega.{arith}
-use mathlib.Core.Bool.{Bool, true, false, _&&_, and-assoc}
+use mathlib.Core.Bool.{Bool, true, false}
 use mathlib.Core.List.{[], _∷_}
 use mathlib.Core.Logic.{_≢_}
 use mathlib.Core.Path.{_≡_, refl, sym, ap, _∙_}
@@ -105,9 +105,6 @@ module _ (f : ℕ → Bool) where
     pub ended : length s ≤ at → run f (drop at s) ≡ 0
     unfolding run
     ended h = rw (drop-of-length-le s h)
-
-    pub asked : at < length s → (b : Bool) → b && every f (drop at s) ≡ (b && f (getD s at 0)) && every f (drop (at + 1) s)
-    asked h b = rw (next s at h) (sym (and-assoc b _ _))
 
     -- a run that is not empty, by its first byte
     pub goes-on : (n : ℕ) → run f (drop at s) ≡ suc n → (at < length s) × (f (getD s at 0) ≡ true) × (run f (drop (at + 1) s) ≡ n)

@@ -1,23 +1,15 @@
 -- The run of bytes at the front that pass a test, and the row of characters that begins there. Assumes nothing.
 use Prim.Native.Nat.{ℕ, suc, _*_}
-use mathlib.Core.Bool.{Bool, cond, not, _&&_}
+use mathlib.Core.Bool.{Bool, cond, _&&_}
 use mathlib.Core.List.{[], _∷_}
 use lib.Dec.{eqb}
 use Rattle.sieve.specs.declared.Charset.{Charset}
 use Rattle.sieve.specs.declared.Charset.the-variants.{Latin, Iso8859}
 use Rattle.sieve.specs.Bytes.{Bytes, within}
 use Rattle.sieve.specs.Charsets.{ofSet}
-use Rattle.sieve.specs.Latin.{inOne, latin}
-use Rattle.characters.specs.declared.Test.{Test}
-use Rattle.characters.specs.declared.Test.the-variants.{Plain, PlainOrDelete, NoDelete}
+use Rattle.sieve.specs.Latin.{latin}
 
--- the tests: a character by itself; that or DEL; any byte but DEL
-abbrev pub passing : Test → ℕ → Bool
-passing Plain = inOne
-passing PlainOrDelete = within 0x20 0x7F
-passing NoDelete = λ x. not (eqb x 0x7F)
-
--- how many bytes it has
+-- how many bytes at the front pass a test
 unfoldable pub run : (ℕ → Bool) → Bytes → ℕ
 run f [] = 0
 run f (x ∷ s) = cond (f x) (suc (run f s)) 0

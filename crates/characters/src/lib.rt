@@ -1,12 +1,16 @@
-// Characters of any bytes: tests of a byte, runs of bytes that pass one, and how wide a character of a set is.
+// Characters of any bytes: runs of bytes of a kind, and how wide a character of a set is.
+use runs::Kind;
+use runs::every;
+use runs::of_kind;
 use sieve::Charset;
 ghost use mathlib.Core.Path.{_≡_};
 ghost use Prim.Native.Nat.{_+_, _-_, _*_};
 ghost use lib.ListN.{drop, getD};
 ghost use Rattle.sieve.specs.Bytes.{every};
 ghost use Rattle.sieve.specs.Iso8859.{isoByte};
-ghost use Rattle.sieve.specs.Latin.{inOne, inTwo, inThree, latin};
-ghost use Rattle.characters.specs.Runs.{passing, run, accents, charactersIn};
+ghost use Rattle.sieve.specs.Latin.{inTwo, inThree, latin};
+ghost use Rattle.runs.specs.CharacterKinds.{ofKind};
+ghost use Rattle.characters.specs.Runs.{run, accents, charactersIn};
 
 // The byte `k` places after `at`, and 0 past the end.
 fn byte(s: &[u8], at: usize, k: usize) -> u8
@@ -20,41 +24,13 @@ fn byte(s: &[u8], at: usize, k: usize) -> u8
     0
 }
 
-// Whether a byte is a character by itself: 20 to 7E.
-fn in_one(x: u8) -> bool
-    ensures { λ r. ⌜ r ≡ inOne x ⌝ }
-{
-    (0x20 <= x) & (x <= 0x7E)
-}
-
-// A test of a byte.
-pub enum Test {
-    // a character by itself
-    Plain,
-    // a character by itself, or DEL: 20 to 7F, which one comparison of signed numbers asks for
-    PlainOrDelete,
-    // any byte but DEL
-    NoDelete,
-}
-
-// Whether a byte passes a test.
-fn passes(test: Test, x: u8) -> bool
-    ensures { λ r. ⌜ r ≡ passing test x ⌝ }
-{
-    match test {
-        Test::Plain => in_one(x),
-        Test::PlainOrDelete => (0x20 <= x) & (x <= 0x7F),
-        Test::NoDelete => x != 0x7F,
-    }
-}
-
-// How many bytes at the front pass a test.
-fn run(test: Test, s: &[u8]) -> usize
-    ensures { λ r. ⌜ r ≡ run (passing test) (now (s .entry)) ⌝ }
+// How many bytes at the front are of a kind.
+fn run(kind: Kind, s: &[u8]) -> usize
+    ensures { λ r. ⌜ r ≡ run (ofKind kind) (now (s .entry)) ⌝ }
 {
     let mut i = 0;
     while i < s.len() {
-        if passes(test, s[i]) {
+        if of_kind(kind, s[i]) {
             i += 1;
         } else {
             return i;
@@ -63,49 +39,35 @@ fn run(test: Test, s: &[u8]) -> usize
     i
 }
 
-// Whether all bytes pass a test. Each byte is asked, whatever was found of those before it: so the compiler asks 16 at
-// once where their number is known.
-pub fn all(test: Test, s: &[u8]) -> bool
-    ensures { λ r. ⌜ r ≡ every (passing test) (now (s .entry)) ⌝ }
-{
-    let mut all = true;
-    let mut i = 0;
-    while i < s.len() {
-        all = all & passes(test, s[i]);
-        i += 1;
-    }
-    all
-}
-
 // Whether no byte is DEL, 32 at once. The last 32 may have been asked for in part before.
 fn without_delete(s: &[u8]) -> bool
-    ensures { λ r. ⌜ r ≡ every (passing Test.NoDelete) (now (s .entry)) ⌝ }
+    ensures { λ r. ⌜ r ≡ every (ofKind Kind.NoDelete) (now (s .entry)) ⌝ }
 {
     if s.len() < 32 {
-        return all(Test::NoDelete, s);
+        return every(Kind::NoDelete, s);
     }
     let last = s.len() - 32;
     let mut at = 0;
     while at < last {
         let to = at + 32;
-        if all(Test::NoDelete, &s[at..to]) {
+        if every(Kind::NoDelete, &s[at..to]) {
             at = to;
         } else {
             return false;
         }
     }
     let end = last + 32;
-    all(Test::NoDelete, &s[last..end])
+    every(Kind::NoDelete, &s[last..end])
 }
 
 // The first DEL; the end where there is none.
 pub fn first_delete(s: &[u8]) -> usize
-    ensures { λ r. ⌜ r ≡ run (passing Test.NoDelete) (now (s .entry)) ⌝ }
+    ensures { λ r. ⌜ r ≡ run (ofKind Kind.NoDelete) (now (s .entry)) ⌝ }
 {
     if without_delete(s) {
         return s.len();
     }
-    run(Test::NoDelete, s)
+    run(Kind::NoDelete, s)
 }
 
 // How many places of n bytes have eight bytes from there on.
@@ -118,20 +80,20 @@ fn eights(n: usize) -> usize
 // The first place from `from` on that is neither a character by itself nor DEL; the end where there is none. Most runs
 // are short, so 8 bytes are looked at one by one; after 8 that are characters more are likely, and 16 are passed at once.
 pub fn plain_end(s: &[u8], from: usize) -> usize
-    ensures { λ r. ⌜ r ≡ from + run (passing Test.PlainOrDelete) (drop from (now (s .entry))) ⌝ }
+    ensures { λ r. ⌜ r ≡ from + run (ofKind Kind.PlainOrDelete) (drop from (now (s .entry))) ⌝ }
 {
-    let last = eights(s.len());
+    let starts = eights(s.len());
     let mut at = from;
-    while at < last {
+    while at < starts {
         let to = at + 8;
-        let n = run(Test::PlainOrDelete, &s[at..to]);
+        let n = run(Kind::PlainOrDelete, &s[at..to]);
         if n != 8 {
             return at + n;
         }
         at = to;
         while 16 <= s.len() - at {
             let to = at + 16;
-            if all(Test::PlainOrDelete, &s[at..to]) {
+            if every(Kind::PlainOrDelete, &s[at..to]) {
                 at = to;
             } else {
                 break;
@@ -141,7 +103,7 @@ pub fn plain_end(s: &[u8], from: usize) -> usize
     if s.len() < at {
         return at;
     }
-    at + run(Test::PlainOrDelete, &s[at..])
+    at + run(Kind::PlainOrDelete, &s[at..])
 }
 
 // C2 then A0 to BF; C3, C4 or C5 then 80 to BF; C8 then 98 to 9B. Umlauts and accents begin with C3, so that is asked
@@ -168,7 +130,7 @@ fn width(s: &[u8], at: usize) -> usize
     ensures { λ r. ⌜ r ≡ latin (drop at (now (s .entry))) ⌝ }
 {
     let x = byte(s, at, 0);
-    if in_one(x) {
+    if of_kind(Kind::Plain, x) {
         return 1;
     }
     if x < 0xC2 {
@@ -188,7 +150,7 @@ fn width(s: &[u8], at: usize) -> usize
 fn in_iso(x: u8) -> bool
     ensures { λ r. ⌜ r ≡ isoByte x ⌝ }
 {
-    in_one(x) | (0xA0 <= x) & (x <= 0xFF)
+    of_kind(Kind::Plain, x) | (0xA0 <= x) & (x <= 0xFF)
 }
 
 // How many bytes from `from` on are characters C3, C4 or C5 then 80 to BF: umlauts and accents, which may come in a row.

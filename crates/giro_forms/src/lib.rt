@@ -1,6 +1,4 @@
 // The forms that the lines of a girocode take.
-use characters::Test;
-use characters::all;
 use girocode::limits;
 use runs::Kind;
 use runs::every;
@@ -85,5 +83,5 @@ pub fn amount(s: &[u8]) -> bool
 pub fn plain(s: &[u8]) -> bool
     ensures { λ r. ⌜ r ≡ plain (now (s .entry)) ⌝ }
 {
-    all(Test::Plain, s)
+    every(Kind::Plain, s)
 }

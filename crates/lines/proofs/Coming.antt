@@ -26,10 +26,11 @@ use Rattle.sieve.proofs.Widths.{width-break}
 use Rattle.sieve.proofs.Charsets.{set-lawful, in-each-set}
 use Rattle.runs.proofs.ByteByByte.{next}
 use Rattle.text.specs.declared.LineAt.{LineAt}
-use Rattle.characters.specs.declared.Test.the-variants.{PlainOrDelete, NoDelete}
+use Rattle.runs.specs.declared.Kind.the-variants.{PlainOrDelete, NoDelete}
 use Rattle.text.specs.Results.{IsLineAt}
 use Rattle.text.specs.LinesIn.{linesIn}
-use Rattle.characters.specs.Runs.{passing, run, accents, charactersIn}
+use Rattle.runs.specs.CharacterKinds.{ofKind}
+use Rattle.characters.specs.Runs.{run, accents, charactersIn}
 use Rattle.characters.proofs.Accents.{row-goes-on, accent-width}
 use Rattle.characters.proofs.Runs.{goes-on, in-run}
 use Rattle.text.proofs.FirstLine.{stops, ends}
@@ -224,13 +225,13 @@ module _ (set : Charset) (s : Bytes) (l : List ℕ) (at : ℕ) (passed : Passed)
     }
 
 -- a run of characters by themselves is passed: among bytes before the first DEL, 20 to 7F are those
-pub run-passed : (set : Charset) (s : Bytes) (l : List ℕ) (at : ℕ) (passed : Passed) (end n : ℕ) → end ≡ run (passing NoDelete) s → run (passing PlainOrDelete) (drop at (take end s)) ≡ n → Here set s l at passed → Here set s l (at + n) passed
+pub run-passed : (set : Charset) (s : Bytes) (l : List ℕ) (at : ℕ) (passed : Passed) (end n : ℕ) → end ≡ run (ofKind NoDelete) s → run (ofKind PlainOrDelete) (drop at (take end s)) ≡ n → Here set s l at passed → Here set s l (at + n) passed
 run-passed set s l at passed end zero d e here = rw add-zero here
 run-passed set s l at passed end (suc n) d e here =
-    let (h, one, more) = goes-on (passing PlainOrDelete) (take end s) at n e in
+    let (h, one, more) = goes-on (ofKind PlainOrDelete) (take end s) at n e in
     let before : at < end = omega (arith, length-take end s) in
     let there : at < length s = omega (arith, length-take end s) in
-    let plain = not-delete (getD s at 0) (rw (getD-take end s at 0 before) at one) (in-run (passing NoDelete) at s (omega arith)) in
+    let plain = not-delete (getD s at 0) (rw (getD-take end s at 0 before) at one) (in-run (ofKind NoDelete) at s (omega arith)) in
     let q : at + suc n ≡ at + 1 + n = omega arith in
     rw q (run-passed set s l (at + 1) passed end n d more (character set s l at passed here 1 (by-itself set s at there plain) (λ z. omega arith)))
 

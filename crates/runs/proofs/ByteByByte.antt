@@ -1,18 +1,22 @@
--- What loops that go byte by byte lean on: what is left from a place on, no byte past the end, and sameness. Assumes nothing.
+-- What loops that go byte by byte lean on: what is left from a place on, tests of every byte, no byte past the end, and sameness. Assumes nothing.
 use Prim.Native.Nat.{ℕ, suc, _+_, _≤_, _<_}
 use native.Mathlib.Numerals.{add-one}
-use mathlib.Core.Bool.{true, false, _&&_, and-false}
+use mathlib.Core.Bool.{Bool, true, false, _&&_, and-false, and-assoc}
 use mathlib.Core.List.{[], _∷_}
 use mathlib.Core.Logic.{_≢_}
 use mathlib.Core.Path.{_≡_, refl, sym, ap}
 use lib.Dec.{eqb}
 use lib.ListN.{length, getD, drop, drop-of-length-le, List·getD-eq-default}
 use lib.Seq.{drop-cons, getD-drop}
-use Rattle.sieve.specs.Bytes.{Bytes, same}
+use Rattle.sieve.specs.Bytes.{Bytes, same, every}
 
 -- the byte at the place, and what is left after it
 pub next : (s : Bytes) (i : ℕ) → i < length s → drop i s ≡ getD s i 0 ∷ drop (i + 1) s
 next s i h = rw (add-one, drop-cons s i 0)
+
+-- every byte passes a test, if what was found of those before says so, this one does, and each after it
+pub asked : (f : ℕ → Bool) (s : Bytes) (i : ℕ) → i < length s → (b : Bool) → b && every f (drop i s) ≡ (b && f (getD s i 0)) && every f (drop (i + 1) s)
+asked f s i h b = rw (next s i h) (sym (and-assoc b _ _))
 
 -- past the end there is no byte
 pub past : (s : Bytes) (at k : ℕ) → length s ≤ at + k → 0 ≡ getD (drop at s) k 0

@@ -24,3 +24,6 @@ one-lay κs a x y v w h k = (h .0 ∙ sym (k .0), ap (λ d. (d, w .1)) (h .1 ∙
 
 pub one-fill : OneAnswer fn.fill.ended fn.fill.Reads.Learnt
 one-fill κs a x y v w h k = (h .0 ∙ sym (k .0), ap (λ d. (d, w .1)) (h .1 ∙ sym (k .1)))
+
+pub one-of-kind : OneAnswer fn.of_kind.ended fn.of_kind.Reads.Learnt
+one-of-kind κs a x y v w h k = (h ∙ sym k, refl)

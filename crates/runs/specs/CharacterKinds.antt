@@ -1,10 +1,12 @@
--- Which bytes a kind of character is. Assumes nothing.
+-- Which bytes are of a kind. Assumes nothing.
 use Prim.Native.Nat.{ℕ}
-use mathlib.Core.Bool.{Bool}
+use mathlib.Core.Bool.{Bool, not}
 use lib.Dec.{eqb}
+use Rattle.sieve.specs.Bytes.{within}
+use Rattle.sieve.specs.Latin.{inOne}
 use Rattle.sieve.specs.Letters.{digit, capital, digitOrCapital, alphanumeric}
 use Rattle.runs.specs.declared.Kind.{Kind}
-use Rattle.runs.specs.declared.Kind.the-variants.{Digit, Capital, DigitOrCapital, Alphanumeric, Zero}
+use Rattle.runs.specs.declared.Kind.the-variants.{Digit, Capital, DigitOrCapital, Alphanumeric, Zero, Plain, PlainOrDelete, NoDelete}
 
 abbrev pub ofKind : Kind → ℕ → Bool
 ofKind Digit = digit
@@ -12,3 +14,6 @@ ofKind Capital = capital
 ofKind DigitOrCapital = digitOrCapital
 ofKind Alphanumeric = alphanumeric
 ofKind Zero = λ x. eqb x 48
+ofKind Plain = inOne
+ofKind PlainOrDelete = within 0x20 0x7F
+ofKind NoDelete = λ x. not (eqb x 0x7F)

@@ -77,17 +77,23 @@ pub fn same(a: &[u8], b: &[u8]) -> bool
     true
 }
 
-// A kind of character, by its byte.
+// A kind of byte.
 pub enum Kind {
     Digit,
     Capital,
     DigitOrCapital,
     Alphanumeric,
     Zero,
+    // a character by itself: 20 to 7E
+    Plain,
+    // that, or DEL: 20 to 7F, which one comparison of signed numbers asks for
+    PlainOrDelete,
+    // any byte but DEL
+    NoDelete,
 }
 
 // Whether a byte is of a kind.
-fn of_kind(kind: Kind, x: u8) -> bool
+pub fn of_kind(kind: Kind, x: u8) -> bool
     ensures { λ r. ⌜ r ≡ ofKind kind x ⌝ }
 {
     let digit = (48 <= x) & (x <= 57);
@@ -99,22 +105,24 @@ fn of_kind(kind: Kind, x: u8) -> bool
         Kind::DigitOrCapital => digit | capital,
         Kind::Alphanumeric => digit | capital | small,
         Kind::Zero => x == 48,
+        Kind::Plain => (0x20 <= x) & (x <= 0x7E),
+        Kind::PlainOrDelete => (0x20 <= x) & (x <= 0x7F),
+        Kind::NoDelete => x != 0x7F,
     }
 }
 
-// Whether every byte is of a kind.
+// Whether every byte is of a kind. Each byte is asked, whatever was found of those before it: so the compiler asks 16 at
+// once where their number is known.
 pub fn every(kind: Kind, s: &[u8]) -> bool
     ensures { λ r. ⌜ r ≡ every (ofKind kind) (now (s .entry)) ⌝ }
 {
+    let mut all = true;
     let mut i = 0;
     while i < s.len() {
-        if of_kind(kind, s[i]) {
-            i += 1;
-        } else {
-            return false;
-        }
+        all = all & of_kind(kind, s[i]);
+        i += 1;
     }
-    true
+    all
 }
 
 // Copies bytes to the front of `dest`, and answers how many; none where they do not fit, and `dest` stays as it is.

@@ -58,7 +58,10 @@ pub fn qr_iban(s: &[u8]) -> bool
 pub fn country(s: &[u8]) -> bool
     ensures { λ r. ⌜ r ≡ country (now (s .entry)) ⌝ }
 {
-    (s.len() == 2) & every(Kind::Capital, s)
+    if s.len() != 2 {
+        return false;
+    }
+    every(Kind::Capital, s)
 }
 
 // One or more digits, a point, two digits; no leading zero, save one zero below 1.00; not 0.00.
@@ -92,7 +95,10 @@ pub fn billing(s: &[u8]) -> bool
 pub fn qrr(s: &[u8]) -> bool
     ensures { λ r. ⌜ r ≡ qrr (now (s .entry)) ⌝ }
 {
-    (s.len() == 27) & every(Kind::Digit, s) & !every(Kind::Zero, s)
+    if s.len() != 27 {
+        return false;
+    }
+    every(Kind::Digit, s) & !every(Kind::Zero, s)
 }
 
 // RF, two digits, one to 21 of A-Z a-z 0-9.

@@ -1,7 +1,7 @@
 -- `characters::first_delete` meets its contract: without DEL the run is all. Assumes nothing.
 use mathlib.Core.Path.{sym, _∙_}
-use Rattle.characters.specs.declared.Test.the-variants.{NoDelete}
-use Rattle.characters.specs.Runs.{passing}
+use Rattle.runs.specs.declared.Kind.the-variants.{NoDelete}
+use Rattle.runs.specs.CharacterKinds.{ofKind}
 use Rattle.characters.proofs.Runs.{run-of-all}
 use borrow.Author.Needs.{needs}
 use Rattle.characters.proofs.first_delete.Statement.{statement}
@@ -11,7 +11,7 @@ without-delete-requires : tie.Need-without-delete-requires
 without-delete-requires c κs = search needs
 
 returns : tie.Need-returns
-returns c = sym (run-of-all (passing NoDelete) (c .before .before .before .args .s .now) (sym (c .before .without-delete .ensures) ∙ c .if1 .taken))
+returns c = sym (run-of-all (ofKind NoDelete) (c .before .before .before .args .s .now) (sym (c .before .without-delete .ensures) ∙ c .if1 .taken))
 
 run-requires : tie.Need-run-requires
 run-requires c κs = search needs

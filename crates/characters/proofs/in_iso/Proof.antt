@@ -3,11 +3,11 @@ use borrow.Author.Needs.{needs}
 use Rattle.characters.proofs.in_iso.Statement.{statement}
 use Rattle.characters.proofs.in_iso.Tie as tie
 
-in-one-requires : tie.Need-in-one-requires
-in-one-requires c κs = search needs
+of-kind-requires : tie.Need-of-kind-requires
+of-kind-requires c κs = search needs
 
 returns : tie.Need-returns
-returns c = rw (c .in-one .ensures)
+returns c = rw (c .of-kind .ensures)
 
 pub in-iso-spec : {M : Type 1} → statement M
-in-iso-spec = tie.close (tie.spec in-one-requires returns)
+in-iso-spec = tie.close (tie.spec of-kind-requires returns)

@@ -7,26 +7,27 @@ use lib.ListN.{length, drop}
 use Rattle.sieve.specs.Bytes.{Bytes}
 use mathlib.Core.Bool.{Bool}
 use Rattle.runs.proofs.Parts.{rest}
-use Rattle.characters.specs.declared.Test.the-variants.{PlainOrDelete}
-use Rattle.characters.specs.Runs.{passing, run}
+use Rattle.runs.specs.declared.Kind.the-variants.{PlainOrDelete}
+use Rattle.runs.specs.CharacterKinds.{ofKind}
+use Rattle.characters.specs.Runs.{run}
 use Rattle.characters.proofs.Runs.{ended, part-few, part-passed, all-passed, part-stopped}
 use Rattle.characters.proofs.plain_end.Statement.{statement}
 use Rattle.characters.proofs.plain_end.Tie as tie
 
 abbrev plain : ℕ → Bool
-plain = passing PlainOrDelete
+plain = ofKind PlainOrDelete
 
 abbrev Inv-loop2 : tie.InvT-loop2
-Inv-loop2 s from last at₀ to n at = (at₀ ≤ at) × (at ≤ length s) × (from + run plain (drop from s) ≡ at + run plain (drop at s))
+Inv-loop2 s from starts at₀ to n at = (at₀ ≤ at) × (at ≤ length s) × (from + run plain (drop from s) ≡ at + run plain (drop at s))
 
 abbrev μ-loop2 : tie.MeasureT-loop2
-μ-loop2 s from last at₀ to n at = length s - at
+μ-loop2 s from starts at₀ to n at = length s - at
 
 abbrev Inv-loop : tie.InvT-loop
-Inv-loop s from last at₀ at = from + run plain (drop from s) ≡ at + run plain (drop at s)
+Inv-loop s from starts at₀ at = from + run plain (drop from s) ≡ at + run plain (drop at s)
 
 abbrev μ-loop : tie.MeasureT-loop
-μ-loop s from last at₀ at = length s - at
+μ-loop s from starts at₀ at = length s - at
 
 -- the bytes, from the outer loop; and the outer loop, from the inner one
 abbrev text : tie.At-loop Inv-loop2 μ-loop2 Inv-loop μ-loop → Bytes
@@ -87,17 +88,17 @@ loop-again c = c .before .loop2 .inv .2
 add-to-2 : tie.Need-add-to-2 Inv-loop2 μ-loop2 Inv-loop μ-loop
 add-to-2 c = search needs
 
-sub-all : tie.Need-sub-all Inv-loop2 μ-loop2 Inv-loop μ-loop
-sub-all c = search needs
+sub-every : tie.Need-sub-every Inv-loop2 μ-loop2 Inv-loop μ-loop
+sub-every c = search needs
 
-part-all-start : tie.Need-part-all-start Inv-loop2 μ-loop2 Inv-loop μ-loop
-part-all-start c = search needs
+part-every-start : tie.Need-part-every-start Inv-loop2 μ-loop2 Inv-loop μ-loop
+part-every-start c = search needs
 
-part-all-end : tie.Need-part-all-end Inv-loop2 μ-loop2 Inv-loop μ-loop
-part-all-end c = search needs
+part-every-end : tie.Need-part-every-end Inv-loop2 μ-loop2 Inv-loop μ-loop
+part-every-end c = search needs
 
-all-requires : tie.Need-all-requires Inv-loop2 μ-loop2 Inv-loop μ-loop
-all-requires c κs = search needs
+every-requires : tie.Need-every-requires Inv-loop2 μ-loop2 Inv-loop μ-loop
+every-requires c κs = search needs
 
 loop2-less : tie.Need-loop2-less Inv-loop2 μ-loop2 Inv-loop μ-loop
 loop2-less c = search needs
@@ -107,7 +108,7 @@ loop2-again c =
     let l = c .before .before .before .before in
     let s = text (outer l) in
     let i = l .loop2 .at in
-    (omega arith, omega arith, l .loop2 .inv .2 ∙ all-passed plain s i (i + 16) (omega arith) (omega arith) (sym (c .before .all .ensures) ∙ c .if2 .taken))
+    (omega arith, omega arith, l .loop2 .inv .2 ∙ all-passed plain s i (i + 16) (omega arith) (omega arith) (sym (c .before .every .ensures) ∙ c .if2 .taken))
 
 loop-less-2 : tie.Need-loop-less-2 Inv-loop2 μ-loop2 Inv-loop μ-loop
 loop-less-2 c = search needs
@@ -166,10 +167,10 @@ plain-end-spec =
     loop-less
     loop-again
     add-to-2
-    sub-all
-    part-all-start
-    part-all-end
-    all-requires
+    sub-every
+    part-every-start
+    part-every-end
+    every-requires
     loop2-less
     loop2-again
     loop-less-2

@@ -5,25 +5,26 @@ use native.Mathlib.Nat.{zero-add}
 use mathlib.Core.Path.{_≡_, sym, _∙_}
 use borrow.Author.Needs.{needs}
 use lib.ListN.{length, drop}
-use Rattle.characters.specs.Runs.{passing, run}
+use Rattle.runs.specs.CharacterKinds.{ofKind}
+use Rattle.characters.specs.Runs.{run}
 use Rattle.characters.proofs.Runs.{passed, stopped, ended}
 use Rattle.characters.proofs.run.Statement.{statement}
 use Rattle.characters.proofs.run.Tie as tie
 
 abbrev Inv-loop : tie.InvT-loop
-Inv-loop test s i₀ i = run (passing test) s ≡ i + run (passing test) (drop i s)
+Inv-loop kind s i₀ i = run (ofKind kind) s ≡ i + run (ofKind kind) (drop i s)
 
 abbrev μ-loop : tie.MeasureT-loop
-μ-loop test s i₀ i = length s - i
+μ-loop kind s i₀ i = length s - i
 
 loop-holds : tie.Need-loop-holds Inv-loop μ-loop
 loop-holds c = sym (zero-add _)
 
-shared-slice-read-passes : tie.Need-shared-slice-read-passes Inv-loop μ-loop
-shared-slice-read-passes c = search needs
+shared-slice-read-of-kind : tie.Need-shared-slice-read-of-kind Inv-loop μ-loop
+shared-slice-read-of-kind c = search needs
 
-passes-requires : tie.Need-passes-requires Inv-loop μ-loop
-passes-requires c κs = search needs
+of-kind-requires : tie.Need-of-kind-requires Inv-loop μ-loop
+of-kind-requires c κs = search needs
 
 add-i : tie.Need-add-i Inv-loop μ-loop
 add-i c = search needs
@@ -34,17 +35,17 @@ loop-less c = search needs
 loop-again : tie.Need-loop-again Inv-loop μ-loop
 loop-again c =
     let l = c .before .before .before .before in
-    l .loop .inv ∙ passed (passing (l .before .before .args .test)) (l .before .before .args .s .now) (l .loop .i) (c .before .before .before .loop-test .taken) (sym (c .before .passes .ensures) ∙ c .if1 .taken)
+    l .loop .inv ∙ passed (ofKind (l .before .before .args .kind)) (l .before .before .args .s .now) (l .loop .i) (c .before .before .before .loop-test .taken) (sym (c .before .of-kind .ensures) ∙ c .if1 .taken)
 
 returns : tie.Need-returns Inv-loop μ-loop
 returns c =
     let l = c .before .before .before .before in
-    omega (arith, l .loop .inv, stopped (passing (l .before .before .args .test)) (l .before .before .args .s .now) (l .loop .i) (c .before .before .before .loop-test .taken) (sym (c .before .passes .ensures) ∙ c .if1 .left))
+    omega (arith, l .loop .inv, stopped (ofKind (l .before .before .args .kind)) (l .before .before .args .s .now) (l .loop .i) (c .before .before .before .loop-test .taken) (sym (c .before .of-kind .ensures) ∙ c .if1 .left))
 
 returns-2 : tie.Need-returns-2 Inv-loop μ-loop
 returns-2 c =
     let l = c .before in
-    omega (arith, l .loop .inv, ended (passing (l .before .before .args .test)) (l .before .before .args .s .now) (l .loop .i) (c .loop-test .left))
+    omega (arith, l .loop .inv, ended (ofKind (l .before .before .args .kind)) (l .before .before .args .s .now) (l .loop .i) (c .loop-test .left))
 
 pub run-spec : {M : Type 1} → statement M
 run-spec =
@@ -53,8 +54,8 @@ run-spec =
     Inv-loop
     μ-loop
     loop-holds
-    shared-slice-read-passes
-    passes-requires
+    shared-slice-read-of-kind
+    of-kind-requires
     add-i
     loop-less
     loop-again

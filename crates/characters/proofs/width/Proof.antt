@@ -11,19 +11,19 @@ use Rattle.characters.proofs.width.Tie as tie
 byte-requires : tie.Need-byte-requires
 byte-requires c κs = search needs
 
-in-one-requires : tie.Need-in-one-requires
-in-one-requires c κs = search needs
+of-kind-requires : tie.Need-of-kind-requires
+of-kind-requires c κs = search needs
 
 returns : tie.Need-returns
 unfolding latin
-returns c = rw (← c .before .before .byte .ensures, ← c .before .in-one .ensures, c .if1 .taken)
+returns c = rw (← c .before .before .byte .ensures, ← c .before .of-kind .ensures, c .if1 .taken)
 
 returns-2 : tie.Need-returns-2
 returns-2 c =
     let d = c .before in
     let x = d .before .before .byte .ensures in
     let a = d .before .before .before .before .args in
-    rw (low (drop (a .at) (a .s .now)) (rw x at (c .if2 .taken)), ← x, ← d .before .in-one .ensures, d .if1 .left)
+    rw (low (drop (a .at) (a .s .now)) (rw x at (c .if2 .taken)), ← x, ← d .before .of-kind .ensures, d .if1 .left)
 
 byte-requires-2 : tie.Need-byte-requires-2
 byte-requires-2 c κs = search needs
@@ -35,7 +35,7 @@ returns-3 : tie.Need-returns-3
 unfolding latin
 returns-3 c =
     let d = c .before .before .before .before in
-    rw (← d .before .before .byte .ensures, ← d .before .in-one .ensures, d .if1 .left, ← c .before .before .byte2 .ensures, ← c .before .in-two .ensures, c .if3 .taken)
+    rw (← d .before .before .byte .ensures, ← d .before .of-kind .ensures, d .if1 .left, ← c .before .before .byte2 .ensures, ← c .before .in-two .ensures, c .if3 .taken)
 
 byte-requires-3 : tie.Need-byte-requires-3
 byte-requires-3 c κs = search needs
@@ -49,7 +49,7 @@ unfolding latin
 three c =
     let e = c .before .before in
     let d = e .before .before .before .before in
-    rw (← d .before .before .byte .ensures, ← d .before .in-one .ensures, d .if1 .left, ← e .before .before .byte2 .ensures, ← e .before .in-two .ensures, e .if3 .left, ← c .before .byte3 .ensures, ← c .in-three .ensures)
+    rw (← d .before .before .byte .ensures, ← d .before .of-kind .ensures, d .if1 .left, ← e .before .before .byte2 .ensures, ← e .before .in-two .ensures, e .if3 .left, ← c .before .byte3 .ensures, ← c .in-three .ensures)
 
 returns-4 : tie.Need-returns-4
 returns-4 c = rw (three (c .before), c .if4 .taken)
@@ -62,7 +62,7 @@ width-spec =
     tie.close
     (tie.spec
     byte-requires
-    in-one-requires
+    of-kind-requires
     returns
     returns-2
     byte-requires-2

@@ -7,15 +7,16 @@ use mathlib.Core.Path.{_≡_, sym, ap, _∙_}
 use lib.ListN.{length, drop}
 use Rattle.sieve.specs.Bytes.{every}
 use Rattle.runs.proofs.Parts.{rest}
-use Rattle.characters.specs.declared.Test.the-variants.{NoDelete}
-use Rattle.characters.specs.Runs.{passing, run}
+use Rattle.runs.specs.declared.Kind.the-variants.{NoDelete}
+use Rattle.runs.specs.CharacterKinds.{ofKind}
+use Rattle.characters.specs.Runs.{run}
 use Rattle.characters.proofs.Runs.{all-passed, not-all-passed, every-behind, not-every}
 use borrow.Author.Needs.{needs}
 use Rattle.characters.proofs.without_delete.Statement.{statement}
 use Rattle.characters.proofs.without_delete.Tie as tie
 
 abbrev other : ℕ → Bool
-other = passing NoDelete
+other = ofKind NoDelete
 
 abbrev Inv-loop : tie.InvT-loop
 Inv-loop s last at₀ at = (at ≤ length s) × (run other s ≡ at + run other (drop at s))
@@ -23,11 +24,11 @@ Inv-loop s last at₀ at = (at ≤ length s) × (run other s ≡ at + run other 
 abbrev μ-loop : tie.MeasureT-loop
 μ-loop s last at₀ at = length s - at
 
-all-requires : tie.Need-all-requires Inv-loop μ-loop
-all-requires c κs = search needs
+every-requires : tie.Need-every-requires Inv-loop μ-loop
+every-requires c κs = search needs
 
 returns : tie.Need-returns Inv-loop μ-loop
-returns c = c .all .ensures
+returns c = c .every .ensures
 
 sub-last : tie.Need-sub-last Inv-loop μ-loop
 sub-last c = search needs
@@ -38,17 +39,17 @@ loop-holds c = (omega arith, sym (zero-add _))
 add-to : tie.Need-add-to Inv-loop μ-loop
 add-to c = search needs
 
-sub-all : tie.Need-sub-all Inv-loop μ-loop
-sub-all c = search needs
+sub-every : tie.Need-sub-every Inv-loop μ-loop
+sub-every c = search needs
 
-part-all-start : tie.Need-part-all-start Inv-loop μ-loop
-part-all-start c = search needs
+part-every-start : tie.Need-part-every-start Inv-loop μ-loop
+part-every-start c = search needs
 
-part-all-end : tie.Need-part-all-end Inv-loop μ-loop
-part-all-end c = search needs
+part-every-end : tie.Need-part-every-end Inv-loop μ-loop
+part-every-end c = search needs
 
-all-requires-2 : tie.Need-all-requires-2 Inv-loop μ-loop
-all-requires-2 c κs = search needs
+every-requires-2 : tie.Need-every-requires-2 Inv-loop μ-loop
+every-requires-2 c κs = search needs
 
 loop-less : tie.Need-loop-less Inv-loop μ-loop
 loop-less c = search needs
@@ -58,29 +59,29 @@ loop-again c =
     let l = c .before .before .before .before in
     let s = l .before .before .before .args .s .now in
     let i = l .loop .at in
-    (omega arith, l .loop .inv .1 ∙ all-passed other s i (i + 32) (omega arith) (omega arith) (sym (c .before .all2 .ensures) ∙ c .if2 .taken))
+    (omega arith, l .loop .inv .1 ∙ all-passed other s i (i + 32) (omega arith) (omega arith) (sym (c .before .every2 .ensures) ∙ c .if2 .taken))
 
 returns-2 : tie.Need-returns-2 Inv-loop μ-loop
 returns-2 c =
     let l = c .before .before .before .before in
     let s = l .before .before .before .args .s .now in
     let i = l .loop .at in
-    sym (not-every other s (omega (arith, l .loop .inv .1, not-all-passed other s i (i + 32) (omega arith) (omega arith) (sym (c .before .all2 .ensures) ∙ c .if2 .left))))
+    sym (not-every other s (omega (arith, l .loop .inv .1, not-all-passed other s i (i + 32) (omega arith) (omega arith) (sym (c .before .every2 .ensures) ∙ c .if2 .left))))
 
 add-end : tie.Need-add-end Inv-loop μ-loop
 add-end c = search needs
 
-sub-all-2 : tie.Need-sub-all-2 Inv-loop μ-loop
-sub-all-2 c = search needs
+sub-every-2 : tie.Need-sub-every-2 Inv-loop μ-loop
+sub-every-2 c = search needs
 
-part-all-start-2 : tie.Need-part-all-start-2 Inv-loop μ-loop
-part-all-start-2 c = search needs
+part-every-start-2 : tie.Need-part-every-start-2 Inv-loop μ-loop
+part-every-start-2 c = search needs
 
-part-all-end-2 : tie.Need-part-all-end-2 Inv-loop μ-loop
-part-all-end-2 c = search needs
+part-every-end-2 : tie.Need-part-every-end-2 Inv-loop μ-loop
+part-every-end-2 c = search needs
 
-all-requires-3 : tie.Need-all-requires-3 Inv-loop μ-loop
-all-requires-3 c κs = search needs
+every-requires-3 : tie.Need-every-requires-3 Inv-loop μ-loop
+every-requires-3 c κs = search needs
 
 returns-3 : tie.Need-returns-3 Inv-loop μ-loop
 returns-3 c =
@@ -88,7 +89,7 @@ returns-3 c =
     let s = l .before .before .before .args .s .now in
     let last = length s - 32 in
     let q : last + 32 - last ≡ length s - last = omega arith in
-    rw q at (c .all3 .ensures) ∙ ap (every other) (rest last s) ∙ every-behind other last s (omega (arith, l .loop .inv .1))
+    rw q at (c .every3 .ensures) ∙ ap (every other) (rest last s) ∙ every-behind other last s (omega (arith, l .loop .inv .1))
 
 pub without-delete-spec : {M : Type 1} → statement M
 without-delete-spec =
@@ -96,21 +97,21 @@ without-delete-spec =
     (tie.spec
     Inv-loop
     μ-loop
-    all-requires
+    every-requires
     returns
     sub-last
     loop-holds
     add-to
-    sub-all
-    part-all-start
-    part-all-end
-    all-requires-2
+    sub-every
+    part-every-start
+    part-every-end
+    every-requires-2
     loop-less
     loop-again
     returns-2
     add-end
-    sub-all-2
-    part-all-start-2
-    part-all-end-2
-    all-requires-3
+    sub-every-2
+    part-every-start-2
+    part-every-end-2
+    every-requires-3
     returns-3)

@@ -8,8 +8,8 @@ use lib.ListN.{length, drop}
 use Rattle.sieve.specs.declared.Charset.{Charset}
 use Rattle.sieve.specs.Bytes.{Bytes}
 use Rattle.sieve.specs.Charsets.{ofSet}
-use Rattle.characters.specs.declared.Test.the-variants.{NoDelete}
-use Rattle.characters.specs.Runs.{passing}
+use Rattle.runs.specs.declared.Kind.the-variants.{NoDelete}
+use Rattle.runs.specs.CharacterKinds.{ofKind}
 use Rattle.characters.proofs.Runs.{few as run-few}
 use Rattle.lines.specs.declared.Passed.{Passed}
 use Rattle.lines.specs.declared.Walked.the-variants.{Clean}
@@ -67,7 +67,7 @@ part-head-start : tie.Need-part-head-start Inv-loop μ-loop Inv-lines μ-lines
 part-head-start c = search needs
 
 part-head-end : tie.Need-part-head-end Inv-loop μ-loop Inv-lines μ-lines
-part-head-end c = omega (arith, c .first-delete .ensures, run-few (passing NoDelete) (c .before .before .args .s .now))
+part-head-end c = omega (arith, c .first-delete .ensures, run-few (ofKind NoDelete) (c .before .before .args .s .now))
 
 lines-holds : tie.Need-lines-holds Inv-loop μ-loop Inv-lines μ-lines
 lines-holds c = (begins _ _ _, refl, λ h. refl)
