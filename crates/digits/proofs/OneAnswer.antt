@@ -21,8 +21,8 @@ one-checks97 κs a x y v w h k = (h ∙ sym k, refl)
 pub one-number : OneAnswer fn.number.ended fn.number.Reads.Learnt
 one-number κs a x y v w h k = (h ∙ sym k, refl)
 
-pub one-decimal-of : OneAnswer fn.decimal_of.ended fn.decimal_of.Reads.Learnt
-one-decimal-of κs a x y v w h k = (h ∙ sym k, refl)
+pub one-decimal : OneAnswer fn.decimal.ended fn.decimal.Reads.Learnt
+one-decimal κs a x y v w h k = (h ∙ sym k, refl)
 
 pub one-checks97-with : OneAnswer fn.checks97_with.ended fn.checks97_with.Reads.Learnt
 one-checks97-with κs a x y v w h k = (h ∙ sym k, refl)

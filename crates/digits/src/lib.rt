@@ -2,15 +2,14 @@
 mod table;
 
 use crate::table::STEP;
-ghost use mathlib.Core.Bool.{true, _&&_};
+ghost use mathlib.Core.Bool.{true};
 ghost use mathlib.Core.Path.{_≡_};
 ghost use Prim.Native.Nat.{_+_, _*_, _%_, _^_, _≤_, _<_};
 ghost use lib.ListN.{length, take, drop};
 ghost use Rattle.sieve.specs.Bytes.{every};
-ghost use Rattle.sieve.specs.Letters.{digit};
+ghost use Rattle.sieve.specs.Letters.{digit, capital};
 ghost use Rattle.sieve.specs.Mod97.{value, onto, number, remainder97, pair, checks97};
 ghost use Rattle.digits.specs.Steps.{remainders};
-ghost use Rattle.digits.specs.Decimals.{decimalOf};
 
 // One of 0-9.
 fn is_digit(x: u8) -> bool
@@ -229,44 +228,28 @@ pub fn number(s: &[u8]) -> u64
     n
 }
 
-// Digits that are read as one number.
-pub enum Decimal {
-    Number(u64),
-    // more than 18 characters, or one that is no digit
-    Other,
-}
-
 // The number that up to 18 digits stand for, which 64 bits hold.
-pub fn decimal_of(s: &[u8]) -> Decimal
-    ensures { λ r. ⌜ r ≡ decimalOf (now (s .entry)) ⌝ }
+pub fn decimal(s: &[u8]) -> u64
+    requires { ⌜ (every digit (now s) ≡ true) × (length (now s) ≤ 18) ⌝ }
+    ensures { λ r. ⌜ r ≡ number 0 (now (s .entry)) ⌝ }
 {
-    if 18 < s.len() {
-        return Decimal::Other;
-    }
     let mut n: u64 = 0;
     let mut i = 0;
     while i < s.len() {
-        let x = s[i];
-        if is_digit(x) {
-            n = 10 * n + wide_digit(x) as u64;
-            i += 1;
-        } else {
-            return Decimal::Other;
-        }
+        n = 10 * n + wide_digit(s[i]) as u64;
+        i += 1;
     }
-    Decimal::Number(n)
+    n
 }
 
-// Whether a text has two check digits, and they are right, if the characters behind them stand for the number `rest`. The
-// remainder is taken twice, and not at each character.
-pub fn checks97_with(s: &[u8], rest: u64) -> bool
-    requires { ⌜ (4 ≤ length (now s)) × (rest ≡ number 0 (drop 4 (now s))) ⌝ }
-    ensures { λ r. ⌜ r ≡ every digit (pair (now (s .entry))) && checks97 (now (s .entry)) ⌝ }
+// Whether a text's two check digits are right, if the two letters before them stand for the number `letters`, and the
+// characters behind them for the number `rest`. The remainder is taken twice, and not at each character.
+pub fn checks97_with(s: &[u8], letters: u64, rest: u64) -> bool
+    requires { ⌜ 4 ≤ length (now s) ⌝ }
+    requires { ⌜ (every capital (take 2 (now s)) ≡ true) × (every digit (pair (now s)) ≡ true) ⌝ }
+    requires { ⌜ (letters ≡ number 0 (take 2 (now s))) × (rest ≡ number 0 (drop 4 (now s))) ⌝ }
+    ensures { λ r. ⌜ r ≡ checks97 (now (s .entry)) ⌝ }
 {
-    if is_digit(s[2]) & is_digit(s[3]) {
-        let p = (10 * wide_digit(s[2]) + wide_digit(s[3])) as u64;
-        let n = extended(extended(rest % 97, s[0]), s[1]);
-        return (2 <= p) & (p <= 98) & ((100 * n + p) % 97 == 1);
-    }
-    false
+    let p = (10 * wide_digit(s[2]) + wide_digit(s[3])) as u64;
+    (2 <= p) & (p <= 98) & ((1000000 * (rest % 97) + 100 * letters + p) % 97 == 1)
 }

@@ -1,20 +1,16 @@
 // The forms that lines take.
-use digits::Decimal;
 use digits::checks97_with;
-use digits::decimal_of;
+use digits::decimal;
 use digits::number;
 use runs::Kind;
 use runs::every;
 use runs::same;
 use swiss::limits;
-ghost use mathlib.Core.Bool.{_&&_};
 ghost use mathlib.Core.Path.{_≡_};
 ghost use lib.ListN.{take, drop};
-ghost use Rattle.sieve.specs.Bytes.{every};
-ghost use Rattle.sieve.specs.Letters.{digit};
 ghost use Rattle.swiss.specs.Forms.{ibanCountry, iban, qrIban, country, amount, billing, qrr, scor};
-ghost use Rattle.sieve.specs.Mod97.{number, checks97};
-ghost use Rattle.swiss_forms.specs.Digits.{ibanOfDigits, scorOfDigits, IsRestOf};
+ghost use Rattle.sieve.specs.Mod97.{number};
+ghost use Rattle.swiss_forms.specs.Digits.{countryLetters, ibanOfDigits, scorOfDigits};
 
 // CH or LI.
 fn iban_country(c: &[u8]) -> bool
@@ -74,11 +70,13 @@ pub fn amount(s: &[u8]) -> bool
     let point = s.len() - 3;
     let whole = &s[0..point];
     let cents = s.len() - 2;
-    every(Kind::Digit, whole)
-        & (s[point] == 46)
-        & every(Kind::Digit, &s[cents..])
-        & ((point == 1) | (whole[0] != 48))
-        & !same(s, b"0.00")
+    if (s[point] == 46) & every(Kind::Digit, &s[cents..]) {
+        if whole[0] == 48 {
+            return (point == 1) & !same(s, b"0.00");
+        }
+        return every(Kind::Digit, whole);
+    }
+    false
 }
 
 // Two slashes, then two of 0-9 A-Z a-z, then anything allowed.
@@ -114,27 +112,35 @@ pub fn scor(s: &[u8]) -> bool
         & every(Kind::Alphanumeric, &s[4..])
 }
 
-// Whether digits alone are behind two characters, and the check digits are right. Behind the pair are at most 18, which
-// were read as one number.
-fn digits_right(s: &[u8], rest: Decimal) -> bool
-    requires { ⌜ IsRestOf (now s) rest ⌝ }
-    ensures { λ r. ⌜ r ≡ every digit (drop 2 (now (s .entry))) && checks97 (now (s .entry)) ⌝ }
+// The number that the letters of an IBAN's country stand for, CH or LI; 0 of any other.
+fn country_letters(c: &[u8]) -> u64
+    ensures { λ r. ⌜ r ≡ countryLetters (now (c .entry)) ⌝ }
 {
-    match rest {
-        Decimal::Number(n) => checks97_with(s, n),
-        Decimal::Other => false,
+    if same(c, b"CH") {
+        return 1217;
     }
+    if same(c, b"LI") {
+        return 2118;
+    }
+    0
 }
 
-// CH or LI, and digits alone behind it, with right check digits: an account as most have it, asked in one go.
+// CH or LI, and digits alone behind it, with right check digits: an account as most have it. The 19 digits are asked
+// for 16 at once, so that the first 16 and the last 16 are them all.
 pub fn iban_right(s: &[u8]) -> bool
     ensures { λ r. ⌜ r ≡ ibanOfDigits (now (s .entry)) ⌝ }
 {
     if s.len() != 21 {
         return false;
     }
-    if iban_country(&s[0..2]) {
-        return digits_right(s, decimal_of(&s[4..21]));
+    let letters = country_letters(&s[0..2]);
+    if letters == 0 {
+        return false;
+    }
+    if every(Kind::Digit, &s[2..18]) {
+        if every(Kind::Digit, &s[5..21]) {
+            return checks97_with(s, letters, decimal(&s[4..21]));
+        }
     }
     false
 }
@@ -150,7 +156,9 @@ pub fn scor_right(s: &[u8]) -> bool
         return false;
     }
     if same(&s[0..2], b"RF") {
-        return digits_right(s, decimal_of(&s[4..]));
+        if every(Kind::Digit, &s[2..]) {
+            return checks97_with(s, 2715, decimal(&s[4..]));
+        }
     }
     false
 }

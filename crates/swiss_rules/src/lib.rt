@@ -172,7 +172,10 @@ fn payment(amount: &[u8], currency: &[u8]) -> Finding
     ensures { λ r. ⌜ r ≡ finds payment (from 19 (now (amount .entry) ∷ now (currency .entry) ∷ [])) ⌝ }
 {
     let f = at_most(KEPT, amount, 19, limits::AMOUNT_MOST);
-    let f = formed(f, amount, 19, swiss_forms::amount(amount));
+    if f.number != 0 {
+        return f;
+    }
+    let f = formed(KEPT, amount, 19, swiss_forms::amount(amount));
     if f.number != 0 {
         return f;
     }
@@ -229,7 +232,10 @@ fn information(message: &[u8], trailer: &[u8], billing: &[u8]) -> Finding
         return f;
     }
     let f = at_most(KEPT, billing, 32, limits::BILLING_MOST);
-    formed(f, billing, 32, swiss_forms::billing(billing))
+    if f.number != 0 {
+        return f;
+    }
+    formed(KEPT, billing, 32, swiss_forms::billing(billing))
 }
 
 // QRR stands exactly with a QR-IBAN, and only with CHF.
