@@ -3,11 +3,8 @@ use mathlib.Core.Path.{refl, sym, _∙_}
 use Rattle.sieve.specs.OneAnswer.{OneAnswer}
 use Rattle.characters.proofs as fn
 
-pub one-plain-end : OneAnswer fn.plain_end.ended fn.plain_end.Reads.Learnt
-one-plain-end κs a x y v w h k = (h ∙ sym k, refl)
-
-pub one-first-delete : OneAnswer fn.first_delete.ended fn.first_delete.Reads.Learnt
-one-first-delete κs a x y v w h k = (h ∙ sym k, refl)
+pub one-plain-run : OneAnswer fn.plain_run.ended fn.plain_run.Reads.Learnt
+one-plain-run κs a x y v w h k = (h ∙ sym k, refl)
 
 pub one-characters-in : OneAnswer fn.characters_in.ended fn.characters_in.Reads.Learnt
 one-characters-in κs a x y v w h k = (h ∙ sym k, refl)

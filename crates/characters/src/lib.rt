@@ -1,15 +1,12 @@
-// Characters of any bytes: runs of bytes of a kind, and how wide a character of a set is.
+// Characters of any bytes: runs of those that have one byte, and how wide a character of a set is.
 use runs::Kind;
-use runs::every;
 use runs::of_kind;
 use sieve::Charset;
 ghost use mathlib.Core.Path.{_≡_};
-ghost use Prim.Native.Nat.{_+_, _-_, _*_};
+ghost use Prim.Native.Nat.{_*_};
 ghost use lib.ListN.{drop, getD};
-ghost use Rattle.sieve.specs.Bytes.{every};
 ghost use Rattle.sieve.specs.Iso8859.{isoByte};
-ghost use Rattle.sieve.specs.Latin.{inTwo, inThree, latin};
-ghost use Rattle.runs.specs.CharacterKinds.{ofKind};
+ghost use Rattle.sieve.specs.Latin.{inOne, inTwo, inThree, latin};
 ghost use Rattle.characters.specs.Runs.{run, accents, charactersIn};
 
 // The byte `k` places after `at`, and 0 past the end.
@@ -24,86 +21,19 @@ fn byte(s: &[u8], at: usize, k: usize) -> u8
     0
 }
 
-// How many bytes at the front are of a kind.
-fn run(kind: Kind, s: &[u8]) -> usize
-    ensures { λ r. ⌜ r ≡ run (ofKind kind) (now (s .entry)) ⌝ }
+// How many bytes at the front are characters by themselves.
+pub fn plain_run(s: &[u8]) -> usize
+    ensures { λ r. ⌜ r ≡ run inOne (now (s .entry)) ⌝ }
 {
     let mut i = 0;
     while i < s.len() {
-        if of_kind(kind, s[i]) {
+        if of_kind(Kind::Plain, s[i]) {
             i += 1;
         } else {
             return i;
         }
     }
     i
-}
-
-// Whether no byte is DEL, 32 at once. The last 32 may have been asked for in part before.
-fn without_delete(s: &[u8]) -> bool
-    ensures { λ r. ⌜ r ≡ every (ofKind Kind.NoDelete) (now (s .entry)) ⌝ }
-{
-    if s.len() < 32 {
-        return every(Kind::NoDelete, s);
-    }
-    let last = s.len() - 32;
-    let mut at = 0;
-    while at < last {
-        let to = at + 32;
-        if every(Kind::NoDelete, &s[at..to]) {
-            at = to;
-        } else {
-            return false;
-        }
-    }
-    let end = last + 32;
-    every(Kind::NoDelete, &s[last..end])
-}
-
-// The first DEL; the end where there is none.
-pub fn first_delete(s: &[u8]) -> usize
-    ensures { λ r. ⌜ r ≡ run (ofKind Kind.NoDelete) (now (s .entry)) ⌝ }
-{
-    if without_delete(s) {
-        return s.len();
-    }
-    run(Kind::NoDelete, s)
-}
-
-// How many places of n bytes have eight bytes from there on.
-fn eights(n: usize) -> usize
-    ensures { λ r. ⌜ r ≡ n - 7 ⌝ }
-{
-    if n < 7 { 0 } else { n - 7 }
-}
-
-// The first place from `from` on that is neither a character by itself nor DEL; the end where there is none. Most runs
-// are short, so 8 bytes are looked at one by one; after 8 that are characters more are likely, and 16 are passed at once.
-pub fn plain_end(s: &[u8], from: usize) -> usize
-    ensures { λ r. ⌜ r ≡ from + run (ofKind Kind.PlainOrDelete) (drop from (now (s .entry))) ⌝ }
-{
-    let starts = eights(s.len());
-    let mut at = from;
-    while at < starts {
-        let to = at + 8;
-        let n = run(Kind::PlainOrDelete, &s[at..to]);
-        if n != 8 {
-            return at + n;
-        }
-        at = to;
-        while 16 <= s.len() - at {
-            let to = at + 16;
-            if every(Kind::PlainOrDelete, &s[at..to]) {
-                at = to;
-            } else {
-                break;
-            }
-        }
-    }
-    if s.len() < at {
-        return at;
-    }
-    at + run(Kind::PlainOrDelete, &s[at..])
 }
 
 // C2 then A0 to BF; C3, C4 or C5 then 80 to BF; C8 then 98 to 9B. Umlauts and accents begin with C3, so that is asked

@@ -1,44 +1,42 @@
 -- The walk, a step at a time: the line that it is in, the breaks that it has passed, and the lines that are noted. Assumes nothing.
-use Prim.Native.Nat.{ℕ, zero, suc, _+_, _-_, _*_, _%_, _≤_, _<_}
-use native.Mathlib.Nat.{zero-add, add-zero, mod-eq-of-lt}
+use Prim.Native.Nat.{ℕ, zero, suc, _+_, _-_, _*_, _%_, _^_, _≤_, _<_}
+use native.Mathlib.Nat.{zero-add, add-zero, add-assoc, mod-eq-of-lt}
 use native.Mathlib.Omega.{arith}
-use mathlib.Core.Bool.{Bool, true, false, cond, not, _&&_, and-eq-true-iff}
+use mathlib.Core.Bool.{Bool, true, false, cond, _&&_, and-eq-true-iff}
 use mathlib.Core.List.{List, [], _∷_}
 use mathlib.Core.Logic.{_≢_}
-use mathlib.Core.Path.{_≡_, refl, sym, ap, _∙_}
+use mathlib.Core.Path.{_≡_, refl, sym, ap, _∙_, subst}
 use lib.Dec.{eqb, ltb}
-use lib.ListN.{length, getD, take, drop, set, length-take, List·getD-eq-default}
-use lib.Seq.{drop-drop, getD-take, getD-drop}
-use borrow.Author.Tests.{eqb-true, eqb-false, ltb-true, ltb-false, ne-eqb, le-ltb, le-leb}
+use lib.ListN.{length, getD, drop, set, length-drop, List·getD-eq-default}
+use lib.Seq.{drop-drop, getD-drop}
+use borrow.Author.Tests.{eqb-true, eqb-false, ltb-true, ltb-false, ne-eqb, le-ltb}
 use Rattle.sieve.specs.declared.Break.{Break}
 use Rattle.sieve.specs.declared.Break.the-variants.{Lf, CrLf}
 use Rattle.sieve.specs.declared.Charset.{Charset}
 use Rattle.sieve.specs.declared.Charset.the-variants.{Latin, Iso8859}
-use Rattle.sieve.specs.Bytes.{Bytes, within}
+use Rattle.sieve.specs.Bytes.{Bytes}
 use Rattle.sieve.specs.Lines.{breakBytes, cut, breaksOf}
 use Rattle.sieve.specs.Characters.{breakWidth}
 use Rattle.sieve.specs.Lawful.{Plain, no-more, one-more}
 use Rattle.sieve.specs.Places.{entries}
 use Rattle.sieve.specs.Latin.{inOne, latin}
 use Rattle.sieve.specs.Charsets.{ofSet}
-use Rattle.sieve.proofs.Bounds.{is-within}
 use Rattle.sieve.proofs.Widths.{width-break}
 use Rattle.sieve.proofs.Charsets.{set-lawful, in-each-set}
 use Rattle.runs.proofs.ByteByByte.{next}
 use Rattle.text.specs.declared.LineAt.{LineAt}
-use Rattle.runs.specs.declared.Kind.the-variants.{PlainOrDelete, NoDelete}
 use Rattle.text.specs.Results.{IsLineAt}
 use Rattle.text.specs.LinesIn.{linesIn}
-use Rattle.runs.specs.CharacterKinds.{ofKind}
 use Rattle.characters.specs.Runs.{run, accents, charactersIn}
 use Rattle.characters.proofs.Accents.{row-goes-on, accent-width}
-use Rattle.characters.proofs.Runs.{goes-on, in-run}
+use Rattle.characters.proofs.Runs.{few as few-run, in-run}
 use Rattle.text.proofs.FirstLine.{stops, ends}
 use Rattle.text.proofs.LinesAt.{within as line-within}
 use Rattle.lines.specs.declared.Passed.{Passed}
+use Rattle.lines.specs.Here.{Here}
 use Rattle.lines.specs.Listed.{capacity, room, greatest, listed, listedOf, Filled}
-use Rattle.lines.specs.Walking.{returnsIn, ofWidth, noted, onePassed, IsPassed, IsListed}
-use Rattle.lines.proofs.Stepping.{Come, starts, few, over-character, over-break}
+use Rattle.lines.specs.Walking.{returnsIn, ofWidth, noted, onePassed, Passable, IsPassed, IsListed}
+use Rattle.lines.proofs.Stepping.{starts, few, over-character, over-break}
 use Rattle.lines.proofs.Parting.{unbroken, broken}
 use Rattle.lines.proofs.Listing.{filled-more, filled-all}
 
@@ -47,17 +45,6 @@ plain-first : {n : ℕ} {t : Bytes} → Plain n t → length (cut t .first) ≡ 
 unfolding cut
 plain-first no-more = sym (zero-add _)
 plain-first (one-more {x = x} a b p) = rw (ne-eqb x 10 a, ne-eqb x 13 b) (omega (arith, plain-first p))
-
-not-true : (b : Bool) → not b ≡ true → b ≡ false
-not-true true h = sym h
-not-true false h = refl
-
--- 20 to 7F is a character by itself, if it is not DEL
-not-delete : (x : ℕ) → within 0x20 0x7F x ≡ true → not (eqb x 0x7F) ≡ true → inOne x ≡ true
-not-delete x h k =
-    let (low, high) = is-within 0x20 0x7F x h in
-    let other = eqb-false x 0x7F (not-true (eqb x 0x7F) k) in
-    rw (le-leb 0x20 x low, le-leb x 0x7E (omega arith))
 
 -- a byte that is a character by itself
 by-itself : (set : Charset) (s : Bytes) (at : ℕ) → at < length s → inOne (getD s at 0) ≡ true → 1 ≡ ofSet set (drop at s)
@@ -139,16 +126,6 @@ unfolding returnsIn
 returns-more Lf ks = sym (zero-add _)
 returns-more CrLf ks = omega arith
 
--- where the walk has come to
-pub record Here (set : Charset) (s : Bytes) (l : List ℕ) (at : ℕ) (passed : Passed) : Type 0 where
-  pub come : Come set s at (passed .feeds)
-  pub before : passed .start ≤ at
-  pub line : passed .start + length (cut (drop (passed .start) s) .first) ≡ at + length (cut (drop at s) .first)
-  pub feeds : length (breaksOf (cut s)) ≡ passed .feeds + length (breaksOf (cut (drop (passed .start) s)))
-  pub returns : returnsIn (breaksOf (cut s)) ≡ passed .returns + returnsIn (breaksOf (cut (drop (passed .start) s)))
-  pub fewer : passed .returns ≤ at
-  pub listed : length s ≤ greatest → Filled s l (passed .start) (listedOf (passed .feeds))
-
 -- it starts at the first byte, whatever the list that is lent holds
 pub begins : (set : Charset) (s : Bytes) (l : List ℕ) → Here set s l 0 (record { feeds = 0; returns = 0; start = 0 })
 unfolding listed linesIn
@@ -224,16 +201,28 @@ module _ (set : Charset) (s : Bytes) (l : List ℕ) (at : ℕ) (passed : Passed)
       filled = here .listed;
     }
 
--- a run of characters by themselves is passed: among bytes before the first DEL, 20 to 7F are those
-pub run-passed : (set : Charset) (s : Bytes) (l : List ℕ) (at : ℕ) (passed : Passed) (end n : ℕ) → end ≡ run (ofKind NoDelete) s → run (ofKind PlainOrDelete) (drop at (take end s)) ≡ n → Here set s l at passed → Here set s l (at + n) passed
-run-passed set s l at passed end zero d e here = rw add-zero here
-run-passed set s l at passed end (suc n) d e here =
-    let (h, one, more) = goes-on (ofKind PlainOrDelete) (take end s) at n e in
-    let before : at < end = omega (arith, length-take end s) in
-    let there : at < length s = omega (arith, length-take end s) in
-    let plain = not-delete (getD s at 0) (rw (getD-take end s at 0 before) at one) (in-run (ofKind NoDelete) at s (omega arith)) in
+-- what of the numbers of lines that were passed fits
+pub passable : {set : Charset} {s : Bytes} {l : List ℕ} {at : ℕ} {passed : Passed} (b : ℕ) → Here set s l at passed → 1 ≤ b → at + b < 2 ^ 64 → Passable passed at b
+passable b here w f = record { feeds = few _ _ _ _ (here .come); returns = here .fewer; wide = w; fits = f }
+
+-- where the walk stands at the start of a line
+pub at-start : {set : Charset} {s : Bytes} {l : List ℕ} {at : ℕ} {passed : Passed} → Here set s l at passed → passed .start ≡ at → Here set s l (passed .start) passed
+at-start {set} {s} {l} {at} {passed} here e = subst (λ (n : ℕ). Here set s l n passed) (sym e) here
+
+-- characters by themselves are passed
+pub plain-passed : (set : Charset) (s : Bytes) (l : List ℕ) (at : ℕ) (passed : Passed) (n : ℕ) → at + n ≤ length s → ((i : ℕ) → i < n → inOne (getD s (at + i) 0) ≡ true) → Here set s l at passed → Here set s l (at + n) passed
+plain-passed set s l at passed zero h plain here = rw add-zero here
+plain-passed set s l at passed (suc n) h plain here =
     let q : at + suc n ≡ at + 1 + n = omega arith in
-    rw q (run-passed set s l (at + 1) passed end n d more (character set s l at passed here 1 (by-itself set s at there plain) (λ z. omega arith)))
+    let first = rw add-zero at (plain 0 (omega arith)) in
+    let next : (i : ℕ) → i < n → inOne (getD s (at + 1 + i) 0) ≡ true = λ i k. rw (add-assoc at 1 i) (plain (1 + i) (omega arith)) in
+    rw q (plain-passed set s l (at + 1) passed n (omega arith) next (character set s l at passed here 1 (by-itself set s at (omega arith) first) (λ z. omega arith)))
+
+-- so is a run of them
+pub run-passed : (set : Charset) (s : Bytes) (l : List ℕ) (at : ℕ) (passed : Passed) (n : ℕ) → n ≡ run inOne (drop at s) → Here set s l at passed → Here set s l (at + n) passed
+run-passed set s l at passed n e here =
+    let fits : at + n ≤ length s = omega (arith, few-run inOne (drop at s), length-drop at s, here .come .within) in
+    plain-passed set s l at passed n fits (λ i h. rw getD-drop at (in-run inOne i (drop at s) (omega arith))) here
 
 -- a row of umlauts and accents is passed
 accents-passed : (s : Bytes) (l : List ℕ) (at : ℕ) (passed : Passed) (n : ℕ) → accents (drop at s) ≡ n → Here Latin s l at passed → Here Latin s l (at + 2 * n) passed

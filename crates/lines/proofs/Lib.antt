@@ -3,6 +3,7 @@ pub mod Parting
 pub mod Holding
 pub mod Counting
 pub mod Listing
+pub mod ByEights
 pub mod Coming
 pub mod Listed
 pub mod Telling

@@ -16,15 +16,10 @@ use Rattle.sieve.proofs.Widths.{passes-other}
 use Rattle.sieve.proofs.Walking.{walk-passed, walk-stops}
 use Rattle.sieve.specs.Charsets.{ofSet}
 use Rattle.lines.specs.declared.Walked.the-variants.{Clean, Bad}
+use Rattle.lines.specs.Here.{Come}
 use Rattle.lines.specs.Walking.{walked}
 use Rattle.sieve.proofs.LineFeeds.{feeds-append, feeds-few}
 use Rattle.text.proofs.Fronts.{Front, character-front, break-front}
-
--- the walk has come to a place: what it does from there on, and the LF bytes that it has passed
-pub record Come (set : Charset) (s : Bytes) (at feeds : ℕ) : Type 0 where
-  pub onward : badPlace (ofSet set) s ≡ walk (ofSet set) 0 (drop at s) at
-  pub passed : lineFeeds (take at s) ≡ feeds
-  pub within : at ≤ length s
 
 pub starts : (set : Charset) (s : Bytes) → Come set s 0 0
 unfolding badPlace lineFeeds

@@ -1,2 +1,3 @@
+pub mod Here
 pub mod Listed
 pub mod Walking

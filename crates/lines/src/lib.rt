@@ -1,19 +1,22 @@
 // The walk over a payload: its characters, its breaks, and where its lines lie; and each line, by the list of places.
 use characters::characters_in;
-use characters::first_delete;
-use characters::plain_end;
+use characters::plain_run;
+use marks::first_marked;
+use marks::later_marks;
+use marks::marks_at;
 use sieve::Break;
 use sieve::Charset;
 use text::feed_after;
 use text::line_at;
 ghost use mathlib.Core.Path.{_≡_};
-ghost use Prim.Native.Nat.{_≤_};
+ghost use Prim.Native.Nat.{_-_, _≤_};
 ghost use lib.ListN.{length, replicate};
 ghost use Rattle.sieve.specs.Lines.{cut, linesOf};
 ghost use Rattle.sieve.specs.Rules.{line};
 ghost use Rattle.sieve.specs.Characters.{badPlace};
 ghost use Rattle.sieve.specs.Charsets.{ofSet};
 ghost use Rattle.lines.specs.Listed.{capacity, room, greatest, listed, listedShort, listedOf, Filled};
+ghost use Rattle.lines.specs.Here.{Begun, GoneOn};
 ghost use Rattle.lines.specs.Walking.{walked, breaksIn, ofWidth, partedBy, noted, heldBy, onePassed};
 ghost use Rattle.lines.specs.Walking.{Passable, IsPassed, IsListed, IsCame, IsTold};
 
@@ -120,6 +123,56 @@ fn pass(places: &mut [u16], passed: Passed, bytes: usize, at: usize, width: usiz
     }
 }
 
+// Where the walk stands: the lines that it has passed, and the byte that it has come to.
+struct Standing {
+    passed: Passed,
+    at: usize,
+}
+
+// How many places of n bytes have eight bytes from there on.
+fn eights(n: usize) -> usize
+    ensures { λ r. ⌜ r ≡ n - 7 ⌝ }
+{
+    if n < 7 { 0 } else { n - 7 }
+}
+
+// Passes lines of characters by themselves, eight bytes at once, from the start of a line on: to a byte that is neither
+// such a character nor of a break, to the end of the list, or to where fewer than eight bytes are left.
+fn pass_lines(s: &[u8], places: &mut [u16; 68], passed: Passed) -> Standing
+    requires { ⌜ Begun (now s) (now places) passed ⌝ }
+    ensures { λ r. ⌜ GoneOn (now (s .entry)) (now (places .entry)) passed (now (places .exit)) r ⌝ }
+{
+    let starts = eights(s.len());
+    let mut p = passed;
+    let mut from = p.start;
+    'words: while from < starts {
+        let mut left = marks_at(s, from);
+        while left != 0 {
+            let at = from + first_marked(left);
+            if CAPACITY <= p.feeds {
+                return Standing { passed: p, at };
+            }
+            let mark = s[at];
+            if mark == 10 {
+                p = pass(places, p, at - p.start, at, 1);
+                left = later_marks(left);
+            } else {
+                if (mark == 13) & feed_after(s, at) {
+                    p = pass(places, p, at - p.start, at, 2);
+                    from = at + 2;
+                    continue 'words;
+                }
+                return Standing { passed: p, at };
+            }
+        }
+        from += 8;
+    }
+    Standing {
+        passed: p,
+        at: from,
+    }
+}
+
 const NONE_PASSED: Passed = Passed {
     feeds: 0,
     returns: 0,
@@ -127,26 +180,21 @@ const NONE_PASSED: Passed = Passed {
 };
 
 // Walks line by line, and in each line character by character, to the first place where neither a character nor a
-// break begins. What ends a line is one LF, alone or after CR. Most characters are 20 to 7E, one byte in each set, and are
-// passed run by run; DEL, which begins nothing, is looked for before, so that the run need not ask for it. Most breaks are
-// LF, and many lines are empty: that is asked first.
+// break begins. What ends a line is one LF, alone or after CR. Most lines are of characters that are one byte in each set, 20
+// to 7E, and are passed eight bytes at once; only from where that ends is a line walked by itself.
 fn come(s: &[u8], set: Charset, places: &mut [u16; 68]) -> Came
     ensures { λ r. ⌜ r .walked ≡ walked (now (s .entry)) (badPlace (ofSet set) (now (s .entry))) ⌝ }
     ensures { λ r. ⌜ IsCame (now (s .entry)) r (now (places .exit)) ⌝ }
 {
-    let end = first_delete(s);
-    let head = &s[0..end];
     let mut at = 0;
     let mut passed = NONE_PASSED;
     let mut walked = Walked::Clean;
     'lines: while at < s.len() {
-        if s[at] == 10 {
-            passed = pass(places, passed, 0, at, 1);
-            at += 1;
-            continue;
-        }
+        let standing = pass_lines(s, places, passed);
+        passed = standing.passed;
+        at = standing.at;
         while at < s.len() {
-            at = plain_end(head, at);
+            at += plain_run(&s[at..]);
             if at == s.len() {
                 break 'lines;
             }

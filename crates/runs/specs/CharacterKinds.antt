@@ -1,12 +1,11 @@
 -- Which bytes are of a kind. Assumes nothing.
 use Prim.Native.Nat.{ℕ}
-use mathlib.Core.Bool.{Bool, not}
+use mathlib.Core.Bool.{Bool}
 use lib.Dec.{eqb}
-use Rattle.sieve.specs.Bytes.{within}
 use Rattle.sieve.specs.Latin.{inOne}
 use Rattle.sieve.specs.Letters.{digit, capital, digitOrCapital, alphanumeric}
 use Rattle.runs.specs.declared.Kind.{Kind}
-use Rattle.runs.specs.declared.Kind.the-variants.{Digit, Capital, DigitOrCapital, Alphanumeric, Zero, Plain, PlainOrDelete, NoDelete}
+use Rattle.runs.specs.declared.Kind.the-variants.{Digit, Capital, DigitOrCapital, Alphanumeric, Zero, Plain}
 
 abbrev pub ofKind : Kind → ℕ → Bool
 ofKind Digit = digit
@@ -15,5 +14,3 @@ ofKind DigitOrCapital = digitOrCapital
 ofKind Alphanumeric = alphanumeric
 ofKind Zero = λ x. eqb x 48
 ofKind Plain = inOne
-ofKind PlainOrDelete = within 0x20 0x7F
-ofKind NoDelete = λ x. not (eqb x 0x7F)

@@ -86,10 +86,6 @@ pub enum Kind {
     Zero,
     // a character by itself: 20 to 7E
     Plain,
-    // that, or DEL: 20 to 7F, which one comparison of signed numbers asks for
-    PlainOrDelete,
-    // any byte but DEL
-    NoDelete,
 }
 
 // Whether a byte is of a kind.
@@ -106,8 +102,6 @@ pub fn of_kind(kind: Kind, x: u8) -> bool
         Kind::Alphanumeric => digit | capital | small,
         Kind::Zero => x == 48,
         Kind::Plain => (0x20 <= x) & (x <= 0x7E),
-        Kind::PlainOrDelete => (0x20 <= x) & (x <= 0x7F),
-        Kind::NoDelete => x != 0x7F,
     }
 }
 

@@ -1,10 +1,9 @@
 -- `characters::characters_in` meets its contract: each set has its own test. Assumes nothing.
-use Prim.Native.Nat.{ℕ, _*_}
+use Prim.Native.Nat.{_*_}
 use native.Mathlib.Omega.{arith}
-use mathlib.Core.Path.{_≡_, _∙_}
+use mathlib.Core.Path.{_≡_}
 use lib.ListN.{drop}
 use borrow.Author.Tests.{eq-eqb, ne-eqb}
-use Rattle.sieve.specs.Bytes.{Bytes}
 use Rattle.sieve.specs.Iso8859.{iso8859}
 use Rattle.characters.specs.Runs.{accents}
 use borrow.Author.Needs.{needs}

@@ -1,21 +1,21 @@
--- `characters::run` meets its contract. The invariant: all bytes up to `i` are of the run. Assumes nothing.
+-- `characters::plain_run` meets its contract. The invariant: all bytes up to `i` are of the run. Assumes nothing.
 use Prim.Native.Nat.{_+_, _-_}
 use native.Mathlib.Omega.{arith}
 use native.Mathlib.Nat.{zero-add}
 use mathlib.Core.Path.{_≡_, sym, _∙_}
 use borrow.Author.Needs.{needs}
 use lib.ListN.{length, drop}
-use Rattle.runs.specs.CharacterKinds.{ofKind}
+use Rattle.sieve.specs.Latin.{inOne}
 use Rattle.characters.specs.Runs.{run}
 use Rattle.characters.proofs.Runs.{passed, stopped, ended}
-use Rattle.characters.proofs.run.Statement.{statement}
-use Rattle.characters.proofs.run.Tie as tie
+use Rattle.characters.proofs.plain_run.Statement.{statement}
+use Rattle.characters.proofs.plain_run.Tie as tie
 
 abbrev Inv-loop : tie.InvT-loop
-Inv-loop kind s i₀ i = run (ofKind kind) s ≡ i + run (ofKind kind) (drop i s)
+Inv-loop s i₀ i = run inOne s ≡ i + run inOne (drop i s)
 
 abbrev μ-loop : tie.MeasureT-loop
-μ-loop kind s i₀ i = length s - i
+μ-loop s i₀ i = length s - i
 
 loop-holds : tie.Need-loop-holds Inv-loop μ-loop
 loop-holds c = sym (zero-add _)
@@ -35,20 +35,20 @@ loop-less c = search needs
 loop-again : tie.Need-loop-again Inv-loop μ-loop
 loop-again c =
     let l = c .before .before .before .before in
-    l .loop .inv ∙ passed (ofKind (l .before .before .args .kind)) (l .before .before .args .s .now) (l .loop .i) (c .before .before .before .loop-test .taken) (sym (c .before .of-kind .ensures) ∙ c .if1 .taken)
+    l .loop .inv ∙ passed inOne (l .before .before .args .s .now) (l .loop .i) (c .before .before .before .loop-test .taken) (sym (c .before .of-kind .ensures) ∙ c .if1 .taken)
 
 returns : tie.Need-returns Inv-loop μ-loop
 returns c =
     let l = c .before .before .before .before in
-    omega (arith, l .loop .inv, stopped (ofKind (l .before .before .args .kind)) (l .before .before .args .s .now) (l .loop .i) (c .before .before .before .loop-test .taken) (sym (c .before .of-kind .ensures) ∙ c .if1 .left))
+    omega (arith, l .loop .inv, stopped inOne (l .before .before .args .s .now) (l .loop .i) (c .before .before .before .loop-test .taken) (sym (c .before .of-kind .ensures) ∙ c .if1 .left))
 
 returns-2 : tie.Need-returns-2 Inv-loop μ-loop
 returns-2 c =
     let l = c .before in
-    omega (arith, l .loop .inv, ended (ofKind (l .before .before .args .kind)) (l .before .before .args .s .now) (l .loop .i) (c .loop-test .left))
+    omega (arith, l .loop .inv, ended inOne (l .before .before .args .s .now) (l .loop .i) (c .loop-test .left))
 
-pub run-spec : {M : Type 1} → statement M
-run-spec =
+pub plain-run-spec : {M : Type 1} → statement M
+plain-run-spec =
     tie.close
     (tie.spec
     Inv-loop

@@ -1,0 +1,4 @@
+pub mod Left
+pub mod Marked
+pub mod OneAnswer
+pub mod Words

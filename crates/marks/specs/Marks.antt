@@ -1,0 +1,19 @@
+-- The marks of bytes that are no character by themselves. Assumes nothing.
+use Prim.Native.Nat.{ℕ, _+_, _-_, _*_, _%_, _^_}
+use mathlib.Core.Bool.{true}
+use mathlib.Core.List.{[], _∷_}
+use mathlib.Core.Path.{_≡_}
+use lib.Bits.{bitAnd, bitOr}
+use Rattle.sieve.specs.Bytes.{Bytes}
+use Rattle.sieve.specs.Latin.{inOne}
+use Rattle.marks.specs.Words.{each}
+
+-- the marks that are reckoned for a number of n bytes: the highest bits of 20 less, of the bytes themselves, and of 1 more
+unfoldable pub marksOf : ℕ → ℕ → ℕ
+marksOf n w = bitAnd (bitOr (bitOr ((w + (2 ^ (8 * n) - each n 0x20)) % 2 ^ (8 * n)) w) ((w + each n 1) % 2 ^ (8 * n))) (each n 0x80)
+
+-- a number marks bytes: each that is not marked is a character by itself, and the mark is its highest bit
+pub data Marks : ℕ → Bytes → Type 0 where
+  no-byte : Marks 0 []
+  unmarked : {m x : ℕ} {s : Bytes} → inOne x ≡ true → Marks m s → Marks (m * 2 ^ 8) (x ∷ s)
+  marked : {m x : ℕ} {s : Bytes} → Marks m s → Marks (m * 2 ^ 8 + 0x80) (x ∷ s)
