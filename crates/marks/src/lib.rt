@@ -38,9 +38,9 @@ fn word(s: &[u8]) -> u64
     w
 }
 
-// The marks of the eight bytes of a number: the highest bit of each that is no character by itself. Less than 20 is what
-// passes 0 less 20; DEL is what passes 7F with 1 more; all other such bytes have their highest bit. A byte that is a
-// character may be marked too, where one before it was less than 20.
+// The marks of the eight bytes of a number: the highest bit of each that is no character by itself. A byte below 20 has
+// it once 20 is taken off, DEL once 1 is added, and every other such byte of its own. A byte that is a character may be
+// marked too, where the one before it is below 20.
 fn marks(w: u64) -> u64
     ensures { λ r. ⌜ r ≡ marksOf 8 w ⌝ }
 {

@@ -145,7 +145,7 @@ pub fn iban_right(s: &[u8]) -> bool
     false
 }
 
-// The same of a creditor reference: RF, and digits alone behind it, with right check digits.
+// The same of a creditor reference: RF, which stands for 2715, and digits alone behind it, with right check digits.
 pub fn scor_right(s: &[u8]) -> bool
     ensures { λ r. ⌜ r ≡ scorOfDigits (now (s .entry)) ⌝ }
 {
