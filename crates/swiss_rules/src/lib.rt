@@ -55,7 +55,7 @@ fn number(l: &[u8], n: usize, form: bool, check: bool) -> Finding
 pub fn account(l: &[u8]) -> Finding
     ensures { λ r. ⌜ r ≡ finds account (from 4 (now (l .entry) ∷ [])) ⌝ }
 {
-    if swiss_forms::iban_right(l) {
+    if swiss_digits::iban_right(l) {
         return KEPT;
     }
     number(l, 4, swiss_forms::iban(l), checks97(l))
@@ -195,7 +195,7 @@ fn qr_reference(l: &[u8]) -> Finding
 fn creditor_reference(l: &[u8]) -> Finding
     ensures { λ r. ⌜ r ≡ finds (referenceOf scor checks97) (from 29 (now (l .entry) ∷ [])) ⌝ }
 {
-    if swiss_forms::scor_right(l) {
+    if swiss_digits::scor_right(l) {
         return KEPT;
     }
     number(l, 29, swiss_forms::scor(l), checks97(l))

@@ -6,7 +6,7 @@ use Rattle.swiss.specs.Forms.{iban}
 use Rattle.swiss.specs.Swiss.{account}
 use Rattle.findings.specs.Findings.{from}
 use Rattle.findings.proofs.Looking.{looked, numbered, looked-finds}
-use Rattle.swiss_forms.proofs.Digits.{iban-of-digits}
+use Rattle.swiss_digits.proofs.Digits.{iban-of-digits}
 use Rattle.swiss_rules.proofs.Right.{all-right}
 use borrow.Author.Needs.{needs}
 use Rattle.swiss_rules.proofs.account.Statement.{statement}

@@ -6,7 +6,7 @@ use Rattle.swiss.specs.Forms.{scor}
 use Rattle.findings.specs.Findings.{from}
 use Rattle.findings.proofs.Looking.{looked, numbered, looked-finds}
 use Rattle.swiss_rules.specs.Parts.{referenceOf}
-use Rattle.swiss_forms.proofs.Digits.{scor-of-digits}
+use Rattle.swiss_digits.proofs.Digits.{scor-of-digits}
 use Rattle.swiss_rules.proofs.Right.{all-right}
 use borrow.Author.Needs.{needs}
 use Rattle.swiss_rules.proofs.creditor_reference.Statement.{statement}

@@ -1,11 +1,11 @@
--- `swiss_forms::country_letters` meets its contract: it is CH, or LI, or neither. Assumes nothing.
+-- `swiss_digits::country_letters` meets its contract: it is CH, or LI, or neither. Assumes nothing.
 use mathlib.Core.Path.{sym, _∙_}
 use Rattle.sieve.specs.Bytes.{ascii}
 use Rattle.sieve.specs.Mod97.{number}
 use Rattle.sieve.proofs.Bounds.{same-is}
 use borrow.Author.Needs.{needs}
-use Rattle.swiss_forms.proofs.country_letters.Statement.{statement}
-use Rattle.swiss_forms.proofs.country_letters.Tie as tie
+use Rattle.swiss_digits.proofs.country_letters.Statement.{statement}
+use Rattle.swiss_digits.proofs.country_letters.Tie as tie
 
 slice-aggregate-same : tie.Need-slice-aggregate-same
 slice-aggregate-same c = search needs

@@ -13,7 +13,7 @@ use Rattle.sieve.specs.Mod97.{checks97}
 use Rattle.sieve.proofs.Bounds.{is-within}
 use Rattle.swiss.specs.Forms.{ibanCountry, iban, scor}
 use Rattle.runs.proofs.Parts.{every-parted, every-part, every-weaker}
-use Rattle.swiss_forms.specs.Digits.{ibanOfDigits, scorOfDigits}
+use Rattle.swiss_digits.specs.Digits.{ibanOfDigits, scorOfDigits}
 
 -- digits behind two characters: the first n, and those behind them
 pub split : (n : ℕ) (s : Bytes) → every digit (drop 2 s) ≡ true → (every digit (take n (drop 2 s)) ≡ true) × (every digit (drop (2 + n) s) ≡ true)

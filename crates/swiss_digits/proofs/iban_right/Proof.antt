@@ -1,4 +1,4 @@
--- `swiss_forms::iban_right` meets its contract: the length, the country, and digits that are right. Assumes nothing.
+-- `swiss_digits::iban_right` meets its contract: the length, the country, and digits that are right. Assumes nothing.
 use native.Mathlib.Omega.{arith}
 use mathlib.Core.Bool.{true, _&&_, and-false}
 use mathlib.Core.Path.{_≡_, sym, _∙_}
@@ -7,12 +7,12 @@ use borrow.Author.Tests.{eq-eqb, ne-eqb}
 use Rattle.sieve.specs.Bytes.{Bytes, every}
 use Rattle.sieve.specs.Letters.{digit}
 use Rattle.sieve.specs.Mod97.{checks97}
-use Rattle.swiss_forms.specs.Digits.{ibanOfDigits}
-use Rattle.swiss_forms.proofs.Digits.{split, to-end, overlapping}
-use Rattle.swiss_forms.proofs.Letters.{Lettered, without-letters, with-letters}
+use Rattle.swiss_digits.specs.Digits.{ibanOfDigits}
+use Rattle.swiss_digits.proofs.Digits.{split, to-end, overlapping}
+use Rattle.swiss_digits.proofs.Letters.{Lettered, without-letters, with-letters}
 use borrow.Author.Needs.{needs}
-use Rattle.swiss_forms.proofs.iban_right.Statement.{statement}
-use Rattle.swiss_forms.proofs.iban_right.Tie as tie
+use Rattle.swiss_digits.proofs.iban_right.Statement.{statement}
+use Rattle.swiss_digits.proofs.iban_right.Tie as tie
 
 returns : tie.Need-returns
 returns c = rw (ne-eqb _ 21 (c .if1 .taken))

@@ -1,4 +1,4 @@
--- `swiss_forms::scor_right` meets its contract: the length, RF, and digits that are right. Assumes nothing.
+-- `swiss_digits::scor_right` meets its contract: the length, RF, and digits that are right. Assumes nothing.
 use native.Mathlib.Omega.{arith}
 use mathlib.Core.Bool.{true, _&&_}
 use mathlib.Core.Path.{_≡_, sym, _∙_}
@@ -9,11 +9,11 @@ use Rattle.sieve.specs.Letters.{digit}
 use Rattle.sieve.specs.Mod97.{number, checks97}
 use Rattle.sieve.proofs.Bounds.{same-is}
 use Rattle.runs.proofs.Parts.{rest}
-use Rattle.swiss_forms.specs.Digits.{scorOfDigits}
-use Rattle.swiss_forms.proofs.Digits.{split}
+use Rattle.swiss_digits.specs.Digits.{scorOfDigits}
+use Rattle.swiss_digits.proofs.Digits.{split}
 use borrow.Author.Needs.{needs}
-use Rattle.swiss_forms.proofs.scor_right.Statement.{statement}
-use Rattle.swiss_forms.proofs.scor_right.Tie as tie
+use Rattle.swiss_digits.proofs.scor_right.Statement.{statement}
+use Rattle.swiss_digits.proofs.scor_right.Tie as tie
 
 returns : tie.Need-returns
 returns c = rw (lt-leb 5 _ (c .if1 .taken))

@@ -8,7 +8,7 @@ use Rattle.sieve.specs.Letters.{capital}
 use Rattle.sieve.specs.Mod97.{number}
 use Rattle.sieve.proofs.Bounds.{same-is}
 use Rattle.swiss.specs.Forms.{ibanCountry}
-use Rattle.swiss_forms.specs.Digits.{countryLetters}
+use Rattle.swiss_digits.specs.Digits.{countryLetters}
 
 -- CH, LI, or any other country
 data Country : Bytes → Type 0 where
