@@ -15,7 +15,7 @@ use Rattle.sieve.specs.Latin.{inOne}
 use Rattle.marks.specs.Marks.{Marks}
 use Rattle.marks.proofs.Left.{Left, all-left, Found, found, none-left}
 use Rattle.lines.specs.declared.Passed.{Passed}
-use Rattle.lines.specs.Here.{Here}
+use Rattle.lines.specs.Here.{Here, GoneOn}
 use Rattle.lines.proofs.Coming.{plain-passed}
 
 -- from one place to another, whatever the set
@@ -33,6 +33,10 @@ and-on g h = record { on = λ set here. h .on set (g .on set here); forward = om
 -- the second place may be told in another way
 pub and-on-from : {s : Bytes} {l l′ l″ : List ℕ} {from at place to : ℕ} {p p′ p″ : Passed} → place ≡ at → Going s l from p l′ at p′ → Going s l′ place p′ l″ to p″ → Going s l from p l″ to p″
 and-on-from e g h = and-on g (rw e at h)
+
+-- from the start of a line, as the contract tells it
+pub told : {s : Bytes} {l l′ : List ℕ} {at : ℕ} {p p′ : Passed} → Going s l (p .start) p l′ at p′ → GoneOn s l p l′ (record { passed = p′; at = at })
+told g = record { here = g .on; forward = g .forward }
 
 -- some of eight bytes are passed, and the marks of the others are left
 pub record Turn (s : Bytes) (l : List ℕ) (from : ℕ) (p : Passed) (l′ : List ℕ) (p′ : Passed) (left : ℕ) : Type 0 where

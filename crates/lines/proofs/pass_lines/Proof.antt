@@ -11,7 +11,7 @@ use Rattle.lines.specs.declared.Passed.{Passed}
 use Rattle.lines.specs.Here.{Here}
 use Rattle.lines.specs.Walking.{noted, onePassed}
 use Rattle.lines.proofs.Coming.{line-feed, carriage-return, a-break-passed, passable}
-use Rattle.lines.proofs.ByEights.{Going, stays, and-on, and-on-from, Turn, turns, to-mark, in-eight, over-mark, all-eight}
+use Rattle.lines.proofs.ByEights.{Going, stays, and-on, and-on-from, told, Turn, turns, to-mark, in-eight, over-mark, all-eight}
 use Rattle.lines.proofs.pass_lines.Statement.{statement}
 use Rattle.lines.proofs.pass_lines.Tie as tie
 
@@ -115,7 +115,7 @@ add-at : tie.Need-add-at Inv-loop μ-loop Inv-words μ-words
 add-at c = record { fits = omega (arith, there c) }
 
 returns : tie.Need-returns Inv-loop μ-loop Inv-words μ-words
-returns c = let f = c .before .before in let g = from-first (loop-of f) (marked f) in record { here = g .on; forward = g .forward }
+returns c = let f = c .before .before in told (from-first (loop-of f) (marked f))
 
 shared-slice-read-mark : tie.Need-shared-slice-read-mark Inv-loop μ-loop Inv-words μ-words
 shared-slice-read-mark c = there (c .before .before .before)
@@ -162,7 +162,7 @@ words-again c =
     rw (noting, is) (from-first (loop-of f) (and-on (marked f) (over-return (c .before))))
 
 returns-2 : tie.Need-returns-2 Inv-loop μ-loop Inv-words μ-words
-returns-2 c = let f = c .before .before .before .before .before .before in let g = from-first (loop-of f) (marked f) in record { here = g .on; forward = g .forward }
+returns-2 c = let f = c .before .before .before .before .before .before in told (from-first (loop-of f) (marked f))
 
 add-from-2 : tie.Need-add-from-2 Inv-loop μ-loop Inv-words μ-words
 add-from-2 c = record { fits = omega (arith, eight (c .before)) }
@@ -174,7 +174,7 @@ words-again-2 : tie.Need-words-again-2 Inv-loop μ-loop Inv-words μ-words
 words-again-2 c = let l = c .before in from-first l (all-eight _ _ _ _ _ _ _ (eight l) (l .loop .inv .1) (c .loop-test .left))
 
 returns-3 : tie.Need-returns-3 Inv-loop μ-loop Inv-words μ-words
-returns-3 c = let g = c .before .words .inv in record { here = g .on; forward = g .forward }
+returns-3 c = told (c .before .words .inv)
 
 pub pass-lines-spec : {M : Type 1} → statement M
 pass-lines-spec =
