@@ -33,7 +33,7 @@ NAMED_CONTRACT = re.compile(r'\bfn\.(\w+)\.(?:Reads\.Learnt|clauses)\b')
 OWN_READINGS = {'viewer'}
 # Functions that hand out a part of what they were lent. Two such parts are compared by what a
 # program has of them, and not by the ghost name of the reference (docs/CLAIMS.md).
-PARTS = {('viewer', 'line'), ('viewer', 'line_after'), ('lines', 'line')}
+PARTS = {('viewer', 'line'), ('viewer', 'line_after'), ('places', 'line')}
 
 
 class Function(NamedTuple):

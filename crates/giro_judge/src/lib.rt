@@ -2,7 +2,7 @@
 use findings::fault_of;
 use giro_rules::rules;
 use girocode::limits;
-use lines::clear;
+use places::clear;
 use runs::same;
 use sieve::Answer;
 use sieve::Charset;

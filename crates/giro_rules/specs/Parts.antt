@@ -8,7 +8,7 @@ use Rattle.sieve.specs.Lines.{cut, linesOf}
 use Rattle.sieve.specs.Rules.{Rule}
 use Rattle.girocode.specs.Coding.{readAsIso}
 use Rattle.girocode.specs.Girocode.{information, exclusive}
-use Rattle.lines.specs.Listed.{listed}
+use Rattle.places.specs.Listed.{listed}
 
 -- lines 10 to 12, and those that go together
 unfoldable pub back : List Rule

@@ -9,7 +9,7 @@ use findings::fixed;
 use findings::formed;
 use findings::rule;
 use girocode::limits;
-use lines::line;
+use places::line;
 use runs::longer;
 use runs::same;
 ghost use mathlib.Core.Bool.{cond};
@@ -21,7 +21,7 @@ ghost use Rattle.sieve.specs.Characters.{characters};
 ghost use Rattle.sieve.specs.Lines.{cut, linesOf};
 ghost use Rattle.girocode.specs.Girocode.{header, receiver, payment, rules};
 ghost use Rattle.findings.specs.Findings.{finds};
-ghost use Rattle.lines.specs.Listed.{Counted};
+ghost use Rattle.places.specs.Listed.{Counted};
 ghost use Rattle.giro_rules.specs.Parts.{back, Coded};
 
 // Lines 1 to 4.

@@ -32,13 +32,14 @@ use Rattle.characters.proofs.Accents.{row-goes-on, accent-width}
 use Rattle.characters.proofs.Runs.{few as few-run, in-run}
 use Rattle.text.proofs.FirstLine.{stops, ends}
 use Rattle.text.proofs.LinesAt.{within as line-within}
+use Rattle.breaks.specs.Parted.{returnsIn, ofWidth}
+use Rattle.breaks.proofs.Parting.{unbroken, broken}
+use Rattle.places.specs.Listed.{capacity, room, greatest, listed, listedOf, Filled}
+use Rattle.places.proofs.Listing.{filled-more, filled-all}
 use Rattle.lines.specs.declared.Passed.{Passed}
 use Rattle.lines.specs.Here.{Here}
-use Rattle.lines.specs.Listed.{capacity, room, greatest, listed, listedOf, Filled}
-use Rattle.lines.specs.Walking.{returnsIn, ofWidth, noted, onePassed, Passable, IsPassed, IsListed}
+use Rattle.lines.specs.Walking.{noted, onePassed, Passable, IsPassed, IsListed}
 use Rattle.lines.proofs.Stepping.{starts, few, over-character, over-break}
-use Rattle.lines.proofs.Parting.{unbroken, broken}
-use Rattle.lines.proofs.Listing.{filled-more, filled-all}
 
 -- bytes that are neither CR nor LF are of the line
 plain-first : {n : ℕ} {t : Bytes} → Plain n t → length (cut t .first) ≡ n + length (cut (drop n t) .first)

@@ -1,10 +1,5 @@
 pub mod Stepping
-pub mod Parting
-pub mod Holding
-pub mod Counting
-pub mod Listing
 pub mod ByEights
 pub mod Coming
-pub mod Listed
 pub mod Telling
 pub mod OneAnswer

@@ -1,19 +1,7 @@
 -- The contract of each public function leaves one answer, and one content of a list that is lent. Assumes nothing.
-use mathlib.Core.Path.{_≡_, refl, sym, ap, _∙_}
-use contract.Lifetimes.{Lfts}
-use denote.Ref.{RefT, now}
-use denote.Triple.Entry.{Args}
-use denote.Triple.Clauses.{AtExit}
-use Rattle.sieve.specs.Bytes.{Bytes}
+use mathlib.Core.Path.{sym, ap, _∙_}
 use Rattle.sieve.specs.OneAnswer.{OneAnswer}
 use Rattle.lines.proofs as fn
 
 pub one-walk : OneAnswer fn.walk.ended fn.walk.Reads.Learnt
 one-walk κs a x y v w h k = (λ i. record { walked = (h .walked ∙ sym (k .walked)) i; parted = (h .parted ∙ sym (k .parted)) i }, ap (λ l. (w .0, (w .1 .0, (l, w .1 .1 .1)))) (h .places ∙ sym (k .places)))
-
-pub one-clear : OneAnswer fn.clear.ended fn.clear.Reads.Learnt
-one-clear κs a x y v w h k = (refl, ap (λ l. (l, w .1)) (h ∙ sym k))
-
--- a part that is handed out is known by its bytes
-pub one-line : (κs : Lfts 2) (a : Args fn.line.signature κs) (x y : RefT Bytes) (e f : AtExit fn.line.ended κs) → fn.line.Reads.Learnt κs a x e → fn.line.Reads.Learnt κs a y f → now x ≡ now y
-one-line κs a x y e f h k = h ∙ sym k

@@ -7,10 +7,11 @@ use mathlib.Core.Path.{_≡_, _∙_}
 use lib.ListN.{length}
 use borrow.Author.Tests.{le-leb}
 use Rattle.sieve.specs.Bytes.{Bytes}
+use Rattle.breaks.specs.Parted.{breaksIn}
+use Rattle.places.specs.Listed.{greatest, listed}
 use Rattle.lines.specs.declared.Told.{Told}
 use Rattle.lines.specs.declared.Walked.the-variants.{Clean}
-use Rattle.lines.specs.Listed.{greatest, listed}
-use Rattle.lines.specs.Walking.{breaksIn, IsTold}
+use Rattle.lines.specs.Walking.{IsTold}
 
 pub clean-tells : (s : Bytes) (o : Option ℕ) (r : Told) {after : List ℕ} → IsTold s o r after → r .walked ≡ Clean → length s ≤ greatest → (r .parted ≡ breaksIn s) × (after ≡ listed s)
 clean-tells s none r t h short = (t .parted, t .places ∙ rw (le-leb (length s) greatest short))

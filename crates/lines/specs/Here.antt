@@ -8,10 +8,10 @@ use Rattle.sieve.specs.Bytes.{Bytes}
 use Rattle.sieve.specs.Lines.{cut, breaksOf}
 use Rattle.sieve.specs.Characters.{walk, badPlace, lineFeeds}
 use Rattle.sieve.specs.Charsets.{ofSet}
+use Rattle.breaks.specs.Parted.{returnsIn}
+use Rattle.places.specs.Listed.{greatest, listedOf, Filled}
 use Rattle.lines.specs.declared.Passed.{Passed}
 use Rattle.lines.specs.declared.Standing.{Standing}
-use Rattle.lines.specs.Listed.{greatest, listedOf, Filled}
-use Rattle.lines.specs.Walking.{returnsIn}
 
 -- what the walk does from a place on, and the LF bytes that it has passed
 pub record Come (set : Charset) (s : Bytes) (at feeds : ℕ) : Type 0 where

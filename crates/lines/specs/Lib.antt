@@ -1,3 +1,2 @@
 pub mod Here
-pub mod Listed
 pub mod Walking

@@ -1,43 +1,28 @@
 -- What one walk over any bytes tells. Assumes nothing.
-use Prim.Native.Nat.{ℕ, suc, _+_, _-_, _*_, _%_, _^_, _≤_, _<_}
-use mathlib.Core.Bool.{cond, not, _&&_}
-use mathlib.Core.List.{List, [], _∷_}
+use Prim.Native.Nat.{ℕ, _+_, _-_, _*_, _%_, _^_, _≤_, _<_}
+use mathlib.Core.Bool.{cond}
+use mathlib.Core.List.{List}
 use mathlib.Core.Option.{Option, some, none}
 use mathlib.Core.Path.{_≡_}
-use lib.Dec.{eqb, ltb}
+use lib.Dec.{ltb}
 use lib.ListN.{length, take, drop, set, replicate}
-use Rattle.sieve.specs.declared.Break.{Break}
-use Rattle.sieve.specs.declared.Break.the-variants.{Lf, CrLf}
-use Rattle.sieve.specs.Bytes.{Bytes, firstSuch}
-use Rattle.sieve.specs.Lines.{cut, breaksOf, kind, sameBreak}
+use Rattle.sieve.specs.declared.Break.the-variants.{Lf}
+use Rattle.sieve.specs.Bytes.{Bytes}
+use Rattle.sieve.specs.Lines.{cut, breaksOf}
 use Rattle.sieve.specs.Characters.{lineFeeds}
+use Rattle.breaks.specs.declared.Parted.the-variants.{Alike}
+use Rattle.breaks.specs.Parted.{breaksIn, returnsIn}
+use Rattle.places.specs.Listed.{capacity, room, greatest, listedShort, listedOf, Filled}
 use Rattle.lines.specs.declared.Walked.{Walked}
 use Rattle.lines.specs.declared.Walked.the-variants.{Clean, Bad}
-use Rattle.lines.specs.declared.Parted.{Parted}
-use Rattle.lines.specs.declared.Parted.the-variants.{Alike, Unlike}
-use Rattle.lines.specs.declared.BreaksPassed.{BreaksPassed}
 use Rattle.lines.specs.declared.Passed.{Passed}
 use Rattle.lines.specs.declared.Came.{Came}
 use Rattle.lines.specs.declared.Told.{Told}
-use Rattle.lines.specs.Listed.{capacity, room, greatest, listedShort, listedOf, Filled}
 
 -- clean, or the line (1 + LF bytes before) and the place of the first bad byte
 abbrev pub walked : Bytes → Option ℕ → Walked
 walked s none = Clean
 walked s (some at) = Bad (1 + lineFeeds (take at s)) at
-
--- the kind of a break of this width
-abbrev pub ofWidth : ℕ → Break
-ofWidth n = cond (eqb n 2) CrLf Lf
-
--- breaks that are all like the first, with how many lines they part; or the line that the first unlike one ends
-abbrev pub parted : List Break → Option ℕ → Parted
-parted ks none = Alike (kind ks) (1 + length ks)
-parted ks (some i) = Unlike i
-
--- the breaks of any bytes
-unfoldable pub breaksIn : Bytes → Parted
-breaksIn s = let ks = breaksOf (cut s) in parted ks (firstSuch (λ k. not (sameBreak (kind ks) k)) 1 ks)
 
 -- all that one walk tells, and the list that it fills: where a byte is bad, of its lines nothing; of bytes that 16 bits do not count, no places
 pub record IsTold (s : Bytes) (o : Option ℕ) (r : Told) (after : List ℕ) : Type 0 where
@@ -46,20 +31,6 @@ pub record IsTold (s : Bytes) (o : Option ℕ) (r : Told) (after : List ℕ) : T
   pub places : after ≡ elim o [ none ↦ listedShort s | some at ↦ replicate room 0 ]
 
 -- on the way
-
--- how many of some breaks are CR LF
-unfoldable pub returnsIn : List Break → ℕ
-returnsIn [] = 0
-returnsIn (Lf ∷ ks) = returnsIn ks
-returnsIn (CrLf ∷ ks) = suc (returnsIn ks)
-
--- the breaks that were passed, and one more, which ends line n
-abbrev pub heldBy : BreaksPassed → ℕ → ℕ → BreaksPassed
-heldBy passed b n = cond (eqb (passed .first) 0) (record { first = b; unlike = passed .unlike }) (cond (eqb (passed .unlike) 0 && not (eqb b (passed .first))) (record { first = passed .first; unlike = n }) passed)
-
--- how n lines are parted, if these are the breaks between them
-abbrev pub partedBy : BreaksPassed → ℕ → Parted
-partedBy passed n = cond (eqb (passed .unlike) 0) (Alike (ofWidth (passed .first)) n) (Unlike (passed .unlike))
 
 -- a list in which a line is noted behind n others, if it is among those that are listed: of each number, 16 bits
 abbrev pub noted : List ℕ → ℕ → ℕ → ℕ → List ℕ

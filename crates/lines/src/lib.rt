@@ -1,27 +1,26 @@
-// The walk over a payload: its characters, its breaks, and where its lines lie; and each line, by the list of places.
+// The walk over a payload: its characters, its breaks, and where its lines lie.
+use breaks::Parted;
+use breaks::parts;
 use characters::characters_in;
 use characters::plain_run;
 use marks::first_marked;
 use marks::later_marks;
 use marks::marks_at;
+use places::CAPACITY;
+use places::clear;
 use sieve::Break;
 use sieve::Charset;
 use text::feed_after;
-use text::line_at;
 ghost use mathlib.Core.Path.{_≡_};
 ghost use Prim.Native.Nat.{_-_, _≤_};
-ghost use lib.ListN.{length, replicate};
-ghost use Rattle.sieve.specs.Lines.{cut, linesOf};
-ghost use Rattle.sieve.specs.Rules.{line};
+ghost use lib.ListN.{length};
 ghost use Rattle.sieve.specs.Characters.{badPlace};
 ghost use Rattle.sieve.specs.Charsets.{ofSet};
-ghost use Rattle.lines.specs.Listed.{capacity, room, greatest, listed, listedShort, listedOf, Filled};
+ghost use Rattle.breaks.specs.Parted.{breaksIn};
+ghost use Rattle.places.specs.Listed.{room, greatest, listed, listedShort, listedOf, Filled};
 ghost use Rattle.lines.specs.Here.{Begun, GoneOn};
-ghost use Rattle.lines.specs.Walking.{walked, breaksIn, ofWidth, partedBy, noted, heldBy, onePassed};
+ghost use Rattle.lines.specs.Walking.{walked, noted, onePassed};
 ghost use Rattle.lines.specs.Walking.{Passable, IsPassed, IsListed, IsCame, IsTold};
-
-// How many lines the list has room for.
-pub const CAPACITY: usize = 34;
 
 // The greatest number of 16 bits.
 const GREATEST: usize = 65535;
@@ -33,24 +32,10 @@ pub enum Walked {
     Bad(usize, usize),
 }
 
-// How some bytes are parted into lines.
-pub enum Parted {
-    // all breaks are like the first: its kind (LF where there is none), and how many lines
-    Alike(Break, usize),
-    // the line that the first break unlike the first one ends
-    Unlike(usize),
-}
-
 // All that one walk tells, beside the list that it fills. Where a byte is bad, the lines are not told: one line.
 pub struct Told {
     pub walked: Walked,
     pub parted: Parted,
-}
-
-// The breaks that were passed: the width of the first, and the line that the first unlike it ends; 0 where there is none.
-struct BreaksPassed {
-    first: usize,
-    unlike: usize,
 }
 
 // The lines that the walk has passed: the breaks that ended them, how many of these are CR LF, and where the next line
@@ -65,36 +50,6 @@ struct Passed {
 struct Came {
     walked: Walked,
     passed: Passed,
-}
-
-const NO_BREAKS: BreaksPassed = BreaksPassed {
-    first: 0,
-    unlike: 0,
-};
-
-// One break more, which ends line n.
-fn held(breaks: BreaksPassed, width: usize, n: usize) -> BreaksPassed
-    ensures { λ r. ⌜ r ≡ heldBy breaks width n ⌝ }
-{
-    let first = breaks.first;
-    let unlike = breaks.unlike;
-    if first == 0 {
-        return BreaksPassed {
-            first: width,
-            unlike,
-        };
-    }
-    if (unlike == 0) & (width != first) {
-        return BreaksPassed { first, unlike: n };
-    }
-    BreaksPassed { first, unlike }
-}
-
-// Clears a list: all numbers 0.
-pub fn clear(places: &mut [u16; 68])
-    ensures { λ _. ⌜ now (places .exit) ≡ replicate room 0 ⌝ }
-{
-    *places = [0; 68];
 }
 
 // Notes a line behind n others, where it is among the lines that are listed. Of longer numbers 16 bits are noted. The
@@ -221,44 +176,6 @@ fn come(s: &[u8], set: Charset, places: &mut [u16; 68]) -> Came
     Came { walked, passed }
 }
 
-// The kind of a break, by its width.
-fn break_of(width: usize) -> Break
-    ensures { λ r. ⌜ r ≡ ofWidth width ⌝ }
-{
-    if width == 2 { Break::CrLf } else { Break::Lf }
-}
-
-// How n lines are parted, if these are the breaks between them.
-fn parted_by(breaks: BreaksPassed, n: usize) -> Parted
-    ensures { λ r. ⌜ r ≡ partedBy breaks n ⌝ }
-{
-    let unlike = breaks.unlike;
-    if unlike == 0 {
-        return Parted::Alike(break_of(breaks.first), n);
-    }
-    Parted::Unlike(unlike)
-}
-
-// How the lines of any bytes are parted, break after break.
-fn parts(s: &[u8]) -> Parted
-    ensures { λ r. ⌜ r ≡ breaksIn (now (s .entry)) ⌝ }
-{
-    let mut breaks = NO_BREAKS;
-    let mut at = 0;
-    let mut n = 1;
-    loop {
-        let line = line_at(s, at);
-        let end = line.end;
-        let next = line.next;
-        if next == end {
-            return parted_by(breaks, n);
-        }
-        breaks = held(breaks, next - end, n);
-        at = next;
-        n += 1;
-    }
-}
-
 // The same of lines that were passed, by their number where that is enough: none of the breaks is CR LF, or each is. Only
 // in bytes that are refused is the first unlike one looked for.
 fn counted(s: &[u8], passed: Passed) -> Parted
@@ -329,14 +246,4 @@ pub fn walk(s: &[u8], set: Charset, places: &mut [u16; 68]) -> Told
             }
         }
     }
-}
-
-// Line n of a payload, as that part of it, by the list that the walk made.
-pub fn line<'a, 'b>(payload: &'a [u8], places: &'b [u16; 68], n: usize) -> &'a [u8]
-    requires { ⌜ (now places ≡ listed (now payload)) × (1 ≤ n) × (n ≤ capacity) ⌝ }
-    ensures { λ r. ⌜ now r ≡ line n (linesOf (cut (now (payload .entry)))) ⌝ }
-{
-    let start = places[2 * n - 2] as usize;
-    let end = start + places[2 * n - 1] as usize;
-    &payload[start..end]
 }

@@ -1,6 +1,6 @@
 // The verdict on a payload, in code: rules 1 to 5 over the whole payload, then those about its lines.
 use findings::fault_of;
-use lines::clear;
+use places::clear;
 use sieve::Answer;
 use sieve::Charset;
 use swiss::limits::LIMITS;

@@ -10,8 +10,8 @@ use findings::filled;
 use findings::fixed;
 use findings::formed;
 use findings::rule;
-use lines::line;
 use mod10::checks10;
+use places::line;
 use runs::longer_together;
 use runs::same;
 use swiss::limits;
@@ -24,7 +24,7 @@ ghost use Rattle.sieve.specs.Mod10.{checks10};
 ghost use Rattle.swiss.specs.Forms.{qrr, scor};
 ghost use Rattle.swiss.specs.Swiss.{header, account, address, payment, reference, information, paired, pairing, together, rules};
 ghost use Rattle.findings.specs.Findings.{finds, from};
-ghost use Rattle.lines.specs.Listed.{listed, Counted};
+ghost use Rattle.places.specs.Listed.{listed, Counted};
 ghost use Rattle.swiss_rules.specs.Parts.{absentIf, textFound, numberFound, addressee, locality, vacant, referenceOf, front, middle, back};
 
 // Lines 1 to 3.

@@ -2,9 +2,9 @@
 // and writes a line of numbers for each: what the walk tells of its bytes and of its breaks, the characters and whether
 // they are too many, the stray break, and the places of lines 1, 2, 3 and 34.
 // All of the input is held at once: a stored input has at most 65,536 bytes.
+use breaks::Parted;
 use libc::STDIN_FILENO;
 use libc::STDOUT_FILENO;
-use lines::Parted;
 use lines::Walked;
 use records::Record;
 use sieve::Break;

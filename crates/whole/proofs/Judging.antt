@@ -21,8 +21,8 @@ use Rattle.sieve.specs.Verdict.{Verdict, accepted, refused, findings, first, se
 use Rattle.sieve.specs.Whole.{plain, bare, limitsOf}
 use Rattle.sieve.proofs.Findings.{found-none, settled-accepts, verdict-is, clear}
 use Rattle.sieve.proofs.Stages.{withMore, inLines, before-refused, more-kept, more-broken}
-use Rattle.lines.specs.Listed.{room, greatest, listed}
-use Rattle.lines.proofs.Listed.{listed-length}
+use Rattle.places.specs.Listed.{room, greatest, listed}
+use Rattle.places.proofs.Listed.{listed-length}
 use Rattle.whole.specs.Judged.{judgedPlaces, IsJudged}
 
 found-alike : (L : Layout) (p : Bytes) (w : Width) → L .width (linesOf (cut p)) ≡ w → first (findings (plain (limitsOf L) w) p) ≡ first (findings (bare L) p)

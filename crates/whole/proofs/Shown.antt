@@ -18,7 +18,7 @@ use Rattle.sieve.proofs.Accepts.{each-like, unmixed-written}
 use Rattle.sieve.proofs.Findings.{found-none, settled-accepts, verdict-is, clear}
 use Rattle.text.specs.LinesIn.{linesIn}
 use Rattle.text.proofs.LinesLie.{lines-placed}
-use Rattle.lines.specs.Listed.{capacity, greatest, listed}
+use Rattle.places.specs.Listed.{capacity, greatest, listed}
 use Rattle.whole.specs.Judged.{judgedPlaces, IsJudged}
 
 -- the first entries are those of fewer lines

@@ -22,12 +22,13 @@ use Rattle.sieve.specs.Verdict.{under, accepted, refused, noBytes, tooManyBytes
 use Rattle.sieve.specs.Whole.{plain}
 use Rattle.sieve.proofs.Findings.{first-nil, verdict-is}
 use Rattle.sieve.proofs.Firsts.{passed, stopped}
-use Rattle.lines.specs.declared.Parted.{Parted}
-use Rattle.lines.specs.declared.Parted.the-variants.{Alike, Unlike}
+use Rattle.breaks.specs.declared.Parted.{Parted}
+use Rattle.breaks.specs.declared.Parted.the-variants.{Alike, Unlike}
+use Rattle.breaks.specs.Parted.{parted, breaksIn}
+use Rattle.places.specs.Listed.{room}
 use Rattle.lines.specs.declared.Told.{Told}
 use Rattle.lines.specs.declared.Walked.the-variants.{Clean, Bad}
-use Rattle.lines.specs.Listed.{room}
-use Rattle.lines.specs.Walking.{walked, parted, breaksIn, IsTold}
+use Rattle.lines.specs.Walking.{walked, IsTold}
 use Rattle.whole.specs.Judged.{judgedPlaces, IsJudged, IsParted}
 
 module _ (limits : Limits) (w : Width) (p : Bytes) where

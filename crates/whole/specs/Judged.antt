@@ -9,9 +9,9 @@ use Rattle.sieve.specs.Lines.{cut, linesOf, breaksOf}
 use Rattle.sieve.specs.Paper.{paper}
 use Rattle.sieve.specs.Rules.{Layout}
 use Rattle.sieve.specs.Verdict.{Verdict, accepted, refused, mixedBreaks, lineCount, findings, first, verdict}
-use Rattle.lines.specs.declared.Parted.{Parted}
-use Rattle.lines.specs.Listed.{room, listedShort}
-use Rattle.lines.specs.Walking.{breaksIn}
+use Rattle.breaks.specs.declared.Parted.{Parted}
+use Rattle.places.specs.Listed.{room, listedShort}
+use Rattle.breaks.specs.Parted.{breaksIn}
 
 -- the places of an accepted payload's lines, as the walk lists them; of a refused one all numbers are 0
 abbrev pub judgedPlaces : Bytes → Verdict → List ℕ

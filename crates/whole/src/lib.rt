@@ -1,8 +1,8 @@
 // Rules 1 to 5, over a whole payload, for every layout: its bytes, its characters, its breaks and its lines.
-use lines::Parted;
+use breaks::Parted;
 use lines::Walked;
-use lines::clear;
 use lines::walk;
+use places::clear;
 use sieve::Answer;
 use sieve::Charset;
 use sieve::Fault;
@@ -11,7 +11,7 @@ ghost use mathlib.Core.Path.{_≡_};
 ghost use lib.ListN.{replicate};
 ghost use Rattle.sieve.specs.Charsets.{ofSet};
 ghost use Rattle.sieve.specs.Whole.{plain};
-ghost use Rattle.lines.specs.Listed.{room};
+ghost use Rattle.places.specs.Listed.{room};
 ghost use Rattle.whole.specs.Judged.{IsJudged, IsParted};
 
 // A refusal leaves no places in the list.

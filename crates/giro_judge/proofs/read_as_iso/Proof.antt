@@ -10,8 +10,8 @@ use Rattle.girocode.specs.Limits.{iso8859-1}
 use Rattle.text.specs.declared.Place.{Place}
 use Rattle.text.specs.LinesIn.{linesIn, lineOf}
 use Rattle.text.specs.Results.{IsPlaceOf}
-use Rattle.lines.specs.Listed.{capacity, listed}
-use Rattle.lines.proofs.Listed.{LineAtPlace, listed-line, part-is-line}
+use Rattle.places.specs.Listed.{capacity, listed}
+use Rattle.places.proofs.Listed.{LineAtPlace, listed-line, part-is-line}
 use Rattle.giro_judge.proofs.read_as_iso.Statement.{statement}
 use Rattle.giro_judge.proofs.read_as_iso.Tie as tie
 

@@ -1,7 +1,7 @@
 -- `lines::counted` meets its contract: the counts tell breaks that are all alike. Assumes nothing.
 use mathlib.Core.Path.{sym, _∙_}
-use Rattle.lines.proofs.Counting.{all-feeds, all-returns}
 use borrow.Author.Needs.{needs}
+use Rattle.breaks.proofs.Counting.{all-feeds, all-returns}
 use Rattle.lines.proofs.counted.Statement.{statement}
 use Rattle.lines.proofs.counted.Tie as tie
 

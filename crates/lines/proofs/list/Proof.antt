@@ -7,7 +7,7 @@ use borrow.Author.Needs.{needs}
 use Rattle.text.specs.declared.LineAt.{LineAt}
 use Rattle.text.specs.Results.{IsLineAt}
 use Rattle.text.proofs.FirstLine.{ends}
-use Rattle.lines.specs.Listed.{greatest}
+use Rattle.places.specs.Listed.{greatest}
 use Rattle.lines.proofs.Coming.{one-noted}
 use Rattle.lines.proofs.list.Statement.{statement}
 use Rattle.lines.proofs.list.Tie as tie

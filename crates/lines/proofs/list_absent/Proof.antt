@@ -3,7 +3,7 @@ use Prim.Native.Nat.{_-_}
 use native.Mathlib.Omega.{arith}
 use mathlib.Core.Path.{_≡_}
 use lib.ListN.{length, length-set}
-use Rattle.lines.specs.Listed.{capacity, room, listedOf, Filled}
+use Rattle.places.specs.Listed.{capacity, room, listedOf, Filled}
 use Rattle.lines.proofs.Coming.{one-absent, all-listed}
 use Rattle.lines.proofs.list_absent.Statement.{statement}
 use Rattle.lines.proofs.list_absent.Tie as tie

@@ -10,11 +10,12 @@ use Rattle.sieve.specs.declared.Break.the-variants.{Lf}
 use Rattle.sieve.specs.Bytes.{Bytes}
 use Rattle.sieve.specs.Characters.{badPlace}
 use Rattle.sieve.specs.Charsets.{ofSet}
+use Rattle.breaks.specs.declared.Parted.{Parted}
+use Rattle.breaks.specs.declared.Parted.the-variants.{Alike}
+use Rattle.breaks.specs.Parted.{breaksIn}
+use Rattle.places.specs.Listed.{room, listedShort}
 use Rattle.lines.specs.declared.Walked.the-variants.{Clean, Bad}
-use Rattle.lines.specs.declared.Parted.{Parted}
-use Rattle.lines.specs.declared.Parted.the-variants.{Alike}
-use Rattle.lines.specs.Listed.{room, listedShort}
-use Rattle.lines.specs.Walking.{walked, breaksIn, IsTold}
+use Rattle.lines.specs.Walking.{walked, IsTold}
 use Rattle.lines.proofs.walk.Statement.{statement}
 use Rattle.lines.proofs.walk.Tie as tie
 

@@ -1,7 +1,7 @@
--- `lines::held` meets its contract. Assumes nothing.
+-- `breaks::held` meets its contract. Assumes nothing.
 use borrow.Author.Tests.{eq-eqb, ne-eqb}
-use Rattle.lines.proofs.held.Statement.{statement}
-use Rattle.lines.proofs.held.Tie as tie
+use Rattle.breaks.proofs.held.Statement.{statement}
+use Rattle.breaks.proofs.held.Tie as tie
 
 returns : tie.Need-returns
 returns c = rw (eq-eqb (c .before .args .breaks .first) 0 (c .if1 .taken))

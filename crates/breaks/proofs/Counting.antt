@@ -10,10 +10,10 @@ use Rattle.sieve.specs.declared.Break.{Break}
 use Rattle.sieve.specs.declared.Break.the-variants.{Lf, CrLf}
 use Rattle.sieve.specs.Bytes.{Bytes}
 use Rattle.sieve.specs.Lines.{cut, breaksOf, kind}
-use Rattle.lines.specs.declared.Parted.{Parted}
-use Rattle.lines.specs.declared.Parted.the-variants.{Alike}
-use Rattle.lines.specs.Walking.{breaksIn, returnsIn}
-use Rattle.lines.proofs.Parting.{partedFrom, no-more, alike, from-first}
+use Rattle.breaks.specs.declared.Parted.{Parted}
+use Rattle.breaks.specs.declared.Parted.the-variants.{Alike}
+use Rattle.breaks.specs.Parted.{breaksIn, returnsIn}
+use Rattle.breaks.proofs.Parting.{partedFrom, no-more, alike, from-first}
 
 few-returns : (ks : List Break) → returnsIn ks ≤ length ks
 unfolding returnsIn

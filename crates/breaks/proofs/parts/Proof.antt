@@ -1,16 +1,16 @@
--- `lines::parts` meets its contract. The invariant: the breaks that were passed, and those that are left. Assumes nothing.
+-- `breaks::parts` meets its contract. The invariant: the breaks that were passed, and those that are left. Assumes nothing.
 use Prim.Native.Nat.{_+_, _-_, _≤_, _<_}
 use native.Mathlib.Omega.{arith}
 use mathlib.Core.Path.{_≡_, refl, sym, ap, _∙_}
 use lib.ListN.{length, drop}
 use Rattle.sieve.specs.Lines.{cut, breaksOf}
 use Rattle.text.proofs.LinesAt.{within}
-use Rattle.lines.specs.Walking.{breaksIn}
-use Rattle.lines.proofs.Parting.{from-first, unbroken, broken}
-use Rattle.lines.proofs.Holding.{heldFrom, Wide, one-held, all-held, still-wide}
+use Rattle.breaks.specs.Parted.{breaksIn}
+use Rattle.breaks.proofs.Parting.{from-first, unbroken, broken}
+use Rattle.breaks.proofs.Holding.{heldFrom, Wide, one-held, all-held, still-wide}
 use borrow.Author.Needs.{needs}
-use Rattle.lines.proofs.parts.Statement.{statement}
-use Rattle.lines.proofs.parts.Tie as tie
+use Rattle.breaks.proofs.parts.Statement.{statement}
+use Rattle.breaks.proofs.parts.Tie as tie
 
 abbrev Inv-loop : tie.InvT-loop
 Inv-loop s breaks₀ at₀ n₀ breaks at n = (at ≤ length s) × (n ≤ at + 1) × (1 ≤ n) × Wide (breaks .first) × (breaksIn s ≡ heldFrom breaks n (breaksOf (cut (drop at s))))

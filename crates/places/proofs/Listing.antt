@@ -14,7 +14,7 @@ use Rattle.text.specs.declared.LineAt.{LineAt}
 use Rattle.text.specs.Results.{IsLineAt}
 use Rattle.text.specs.LinesIn.{linesFrom, linesAt}
 use Rattle.text.proofs.LinesAt.{Onward, nothing, a-break, onward}
-use Rattle.lines.specs.Listed.{capacity, room, listed, Filled}
+use Rattle.places.specs.Listed.{capacity, room, listed, Filled}
 
 -- past the end there are only absent lines, which look like one empty line there
 at-end : (p : Bytes) (n : ℕ) → entries n (length p) (linesAt p (length p)) ≡ entries n (length p) []

@@ -1,7 +1,7 @@
--- `lines::break_of` meets its contract. Assumes nothing.
+-- `breaks::break_of` meets its contract. Assumes nothing.
 use borrow.Author.Tests.{eq-eqb, ne-eqb}
-use Rattle.lines.proofs.break_of.Statement.{statement}
-use Rattle.lines.proofs.break_of.Tie as tie
+use Rattle.breaks.proofs.break_of.Statement.{statement}
+use Rattle.breaks.proofs.break_of.Tie as tie
 
 returns : tie.Need-returns
 returns c = rw (eq-eqb _ 2 (c .if1 .taken))

@@ -1,11 +1,11 @@
--- `lines::line` meets its contract: the list says where the line lies. Assumes nothing.
+-- `places::line` meets its contract: the list says where the line lies. Assumes nothing.
 use Prim.Native.Nat.{_-_, _*_}
 use native.Mathlib.Omega.{arith}
 use borrow.Author.Needs.{needs}
 use lib.ListN.{getD}
-use Rattle.lines.proofs.Listed.{LineAtPlace, listed-line, part-is-line}
-use Rattle.lines.proofs.line.Statement.{statement}
-use Rattle.lines.proofs.line.Tie as tie
+use Rattle.places.proofs.Listed.{LineAtPlace, listed-line, part-is-line}
+use Rattle.places.proofs.line.Statement.{statement}
+use Rattle.places.proofs.line.Tie as tie
 
 -- what the list says of the line
 place : (c : tie.Start) → let a = c .args in LineAtPlace (a .payload .now) (a .n) (getD (a .places .now) (2 * a .n - 2) 0) (getD (a .places .now) (2 * a .n - 1) 0)

@@ -11,7 +11,7 @@ use Rattle.sieve.proofs.Cutting.{glued-cut}
 use Rattle.sieve.proofs.Placing.{entries-length, entry-at}
 use Rattle.text.specs.LinesIn.{linesFrom, linesIn, lineOf}
 use Rattle.text.proofs.LinesLie.{line-lies, line-text}
-use Rattle.lines.specs.Listed.{capacity, room, listed}
+use Rattle.places.specs.Listed.{capacity, room, listed}
 
 pub listed-length : (p : Bytes) → length (listed p) ≡ room
 unfolding listed

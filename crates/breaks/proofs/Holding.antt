@@ -9,11 +9,11 @@ use lib.ListN.{length}
 use borrow.Author.Tests.{eqb-true, eqb-false, ne-eqb}
 use Rattle.sieve.specs.declared.Break.{Break}
 use Rattle.sieve.specs.Lines.{breakBytes, kind}
-use Rattle.lines.specs.declared.BreaksPassed.{BreaksPassed}
-use Rattle.lines.specs.declared.Parted.{Parted}
-use Rattle.lines.specs.declared.Parted.the-variants.{Alike, Unlike}
-use Rattle.lines.specs.Walking.{ofWidth, heldBy, partedBy}
-use Rattle.lines.proofs.Parting.{partedFrom, no-more as none-more, alike, unlike}
+use Rattle.breaks.specs.declared.BreaksPassed.{BreaksPassed}
+use Rattle.breaks.specs.declared.Parted.{Parted}
+use Rattle.breaks.specs.declared.Parted.the-variants.{Alike, Unlike}
+use Rattle.breaks.specs.Parted.{ofWidth, heldBy, partedBy}
+use Rattle.breaks.proofs.Parting.{partedFrom, no-more as none-more, alike, unlike}
 
 -- how the lines are parted, if these breaks come behind n - 1 others
 abbrev pub heldFrom : BreaksPassed → ℕ → List Break → Parted

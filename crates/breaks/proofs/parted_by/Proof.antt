@@ -1,8 +1,8 @@
--- `lines::parted_by` meets its contract. Assumes nothing.
+-- `breaks::parted_by` meets its contract. Assumes nothing.
 use borrow.Author.Tests.{eq-eqb, ne-eqb}
 use borrow.Author.Needs.{needs}
-use Rattle.lines.proofs.parted_by.Statement.{statement}
-use Rattle.lines.proofs.parted_by.Tie as tie
+use Rattle.breaks.proofs.parted_by.Statement.{statement}
+use Rattle.breaks.proofs.parted_by.Tie as tie
 
 break-of-requires : tie.Need-break-of-requires
 break-of-requires c κs = search needs

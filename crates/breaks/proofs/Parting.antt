@@ -15,11 +15,11 @@ use Rattle.sieve.specs.Bytes.{Bytes, firstSuch}
 use Rattle.sieve.specs.Lines.{breakBytes, cut, breaksOf, kind, sameBreak}
 use Rattle.sieve.proofs.Likeness.{like-itself, unlike-found}
 use Rattle.text.specs.declared.LineAt.{LineAt}
-use Rattle.lines.specs.declared.Parted.{Parted}
-use Rattle.lines.specs.declared.Parted.the-variants.{Alike, Unlike}
 use Rattle.text.specs.Results.{IsLineAt}
-use Rattle.lines.specs.Walking.{ofWidth, parted, breaksIn}
 use Rattle.text.proofs.LinesAt.{some-width, Onward, nothing, a-break, onward}
+use Rattle.breaks.specs.declared.Parted.{Parted}
+use Rattle.breaks.specs.declared.Parted.the-variants.{Alike, Unlike}
+use Rattle.breaks.specs.Parted.{ofWidth, parted, breaksIn}
 
 -- breaks that come after those of n - 1 lines, all of kind k
 abbrev settled : Break → ℕ → Option ℕ → Parted

@@ -1,0 +1,4 @@
+pub mod Parting
+pub mod Holding
+pub mod Counting
+pub mod OneAnswer
