@@ -6,7 +6,6 @@ use native.Mathlib.Omega.{arith}
 use mathlib.Core.Bool.{not}
 use mathlib.Core.List.{List, [], _∷_}
 use mathlib.Core.Logic.{_≢_}
-use mathlib.Core.Option.{Option, some, none}
 use mathlib.Core.Path.{_≡_, refl, ap}
 use lib.ListN.{length, drop}
 use Rattle.sieve.specs.declared.Break.{Break}
@@ -22,12 +21,8 @@ use Rattle.breaks.specs.declared.Parted.the-variants.{Alike, Unlike}
 use Rattle.breaks.specs.Parted.{ofWidth, parted, breaksIn}
 
 -- breaks that come after those of n - 1 lines, all of kind k
-abbrev settled : Break → ℕ → Option ℕ → Parted
-settled k n none = Alike k n
-settled k n (some i) = Unlike i
-
 pub partedFrom : Break → ℕ → List Break → Parted
-partedFrom k n ks = settled k (n + length ks) (firstSuch (λ j. not (sameBreak k j)) n ks)
+partedFrom k n ks = parted k (n + length ks) (firstSuch (λ j. not (sameBreak k j)) n ks)
 
 pub no-more : (k : Break) (n : ℕ) → partedFrom k n [] ≡ Alike k n
 unfolding firstSuch partedFrom
@@ -35,7 +30,7 @@ no-more k n = ap (Alike k) (add-zero n)
 
 pub alike : (k : Break) (n : ℕ) (ks : List Break) → partedFrom k n (k ∷ ks) ≡ partedFrom k (n + 1) ks
 unfolding firstSuch partedFrom
-alike k n ks = rw (like-itself k, firstSuch, add-one) (ap (λ (m : ℕ). settled k m (firstSuch (λ j. not (sameBreak k j)) (suc n) ks)) (omega arith))
+alike k n ks = rw (like-itself k, firstSuch, add-one) (ap (λ (m : ℕ). parted k m (firstSuch (λ j. not (sameBreak k j)) (suc n) ks)) (omega arith))
 
 pub unlike : (k : Break) (n : ℕ) (j : Break) (ks : List Break) → j ≢ k → partedFrom k n (j ∷ ks) ≡ Unlike n
 unfolding firstSuch partedFrom
@@ -44,11 +39,7 @@ unlike k n j ks h = rw (unlike-found k j h, firstSuch)
 -- all breaks, held against the first
 pub from-first : (s : Bytes) → let ks = breaksOf (cut s) in breaksIn s ≡ partedFrom (kind ks) 1 ks
 unfolding breaksIn partedFrom
-from-first s = go (breaksOf (cut s)) (firstSuch (λ j. not (sameBreak (kind (breaksOf (cut s))) j)) 1 (breaksOf (cut s)))
-  where
-    go : (ks : List Break) (o : Option ℕ) → parted ks o ≡ settled (kind ks) (1 + length ks) o
-    go ks none = refl
-    go ks (some i) = refl
+from-first s = refl
 
 its-kind : (k : Break) → ofWidth (length (breakBytes k)) ≡ k
 its-kind Lf = refl

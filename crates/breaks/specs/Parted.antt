@@ -17,14 +17,14 @@ use Rattle.breaks.specs.declared.BreaksPassed.{BreaksPassed}
 abbrev pub ofWidth : ℕ → Break
 ofWidth n = cond (eqb n 2) CrLf Lf
 
--- breaks that are all like the first, with how many lines they part; or the line that the first unlike one ends
-abbrev pub parted : List Break → Option ℕ → Parted
-parted ks none = Alike (kind ks) (1 + length ks)
-parted ks (some i) = Unlike i
+-- n lines, parted by breaks of one kind; or the line that the first unlike break ends
+abbrev pub parted : Break → ℕ → Option ℕ → Parted
+parted k n none = Alike k n
+parted k n (some i) = Unlike i
 
--- the breaks of any bytes
+-- the breaks of any bytes, held against the first
 unfoldable pub breaksIn : Bytes → Parted
-breaksIn s = let ks = breaksOf (cut s) in parted ks (firstSuch (λ k. not (sameBreak (kind ks) k)) 1 ks)
+breaksIn s = let ks = breaksOf (cut s) in parted (kind ks) (1 + length ks) (firstSuch (λ k. not (sameBreak (kind ks) k)) 1 ks)
 
 -- how many of some breaks are CR LF
 unfoldable pub returnsIn : List Break → ℕ

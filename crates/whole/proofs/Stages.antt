@@ -97,7 +97,7 @@ module _ (limits : Limits) (w : Width) (p : Bytes) where
     unfolding breaksIn
     mixed i e = refused-so (MixedBreaks i) (go odd refl (sym e ∙ is .parted))
       where
-        go : (o : Option ℕ) → odd ≡ o → Unlike i ≡ parted ks o → first (findings L p) ≡ some (under 4 i)
+        go : (o : Option ℕ) → odd ≡ o → Unlike i ≡ parted (kind ks) (1 + length ks) o → first (findings L p) ≡ some (under 4 i)
         go none f h = let z : _≡_ {A = ℕ} 0 1 = cc in absurd (omega arith)
         go (some j) f h = let a : i ≡ j = cc in stopped _ (is .hangs) (rw (f, a))
 
@@ -111,7 +111,7 @@ module _ (limits : Limits) (w : Width) (p : Bytes) where
     unfolding breaksIn
     alike k n e = go odd refl (sym e ∙ is .parted)
       where
-        go : (o : Option ℕ) → odd ≡ o → Alike k n ≡ parted ks o → OfOneKind k n
+        go : (o : Option ℕ) → odd ≡ o → Alike k n ≡ parted (kind ks) (1 + length ks) o → OfOneKind k n
         go (some j) f h = let z : _≡_ {A = ℕ} 0 1 = cc in absurd (omega arith)
         go none f h =
             let m : n ≡ 1 + length ks = cc in
