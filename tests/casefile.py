@@ -31,6 +31,7 @@ Anything else is an error.
 """
 
 import re
+from functools import cache
 from pathlib import Path
 from typing import NamedTuple
 
@@ -86,6 +87,19 @@ def bill_lines(name: str, folder: Path = FOLDER) -> list[bytes]:
     """The lines of the bill of that name."""
     bills, _ = read_files(folder)
     return [to_bytes(line, b'') for line in bills[name].split('|')]
+
+
+@cache
+def base_lines():
+    """The lines of the base bill, read once."""
+    return tuple(bill_lines('B'))
+
+
+def base_bill(lines):
+    """The base bill, parted by LF, with other texts for some lines; as long as the last one asks."""
+    absent = (max(lines) - len(base_lines())) * (b'',)
+    texts = enumerate(base_lines() + absent, start=1)
+    return b'\n'.join(lines.get(number, text) for number, text in texts)
 
 
 def read_files(folder):

@@ -1,4 +1,5 @@
-"""Run the reference over every case, and check what follows from each of its answers.
+"""Run the reference over every case, and check what follows from each of its answers; and hold it to
+other ways of reckoning, on texts for the check digits and runs of characters and breaks.
 
 Prints a line for each failure and at the end `N passed, M failed`.
 """
@@ -6,8 +7,10 @@ Prints a line for each failure and at the end `N passed, M failed`.
 import sys
 
 from casefile import BREAKS, FOLDER, CaseFileError, read_cases
+from digit_texts import digit_checks
 from layouts import GIROCODE, SWISS
 from telling import Count
+from text_payloads import text_checks
 from writer_order import writer_checks
 
 
@@ -41,7 +44,7 @@ def checks_of_accepted(payload, answer, paper):
 
 
 def all_checks():
-    """The checks of all cases and of the writer, each with where it comes from."""
+    """The checks of all cases, of the writer and of texts, each with where it comes from."""
     for layout, folder in FOLDERS.items():
         cases = read_cases(folder)
         if not cases:
@@ -49,8 +52,9 @@ def all_checks():
         for case in cases:
             for name, expected, got in checks_of_case(case, layout.reference):
                 yield f'{case.file}: {case.name}: {name}', expected, got
-    for name, expected, got in writer_checks():
-        yield f'writer_order.py: {name}', expected, got
+    for some in (writer_checks, digit_checks, text_checks):
+        for name, expected, got in some():
+            yield f'{some.__module__}.py: {name}', expected, got
 
 
 def main():

@@ -1,7 +1,5 @@
-"""Records as our programs and the hosts in C read them: a length, and that many bytes.
-
-A length has four bytes, or two in the stored inputs of some programs; the lowest comes first, as in
-every number of a record.
+"""Records as our programs and the hosts in C read them: a length of four bytes, and that many bytes.
+The lowest byte comes first, as in every number of a record.
 """
 
 LENGTH_BYTES = 4
@@ -12,14 +10,14 @@ def number(value, size):
     return value.to_bytes(size, 'little')
 
 
-def framed(content, length_bytes=LENGTH_BYTES):
+def framed(content):
     """Some bytes behind their length."""
-    return number(len(content), length_bytes) + content
+    return number(len(content), LENGTH_BYTES) + content
 
 
-def records(stream, length_bytes=LENGTH_BYTES):
+def records(stream):
     """The records of a stream, each with its length; what is left over is one more."""
     while stream:
-        end = length_bytes + int.from_bytes(stream[:length_bytes], 'little')
+        end = LENGTH_BYTES + int.from_bytes(stream[:LENGTH_BYTES], 'little')
         yield stream[:end]
         stream = stream[end:]

@@ -7,6 +7,7 @@ library; those in tests/host/headers declare what our C files use.
 import os
 import platform
 import subprocess
+from functools import cache
 from pathlib import Path
 
 ROOT = Path(__file__).resolve().parent.parent
@@ -46,8 +47,10 @@ def linked(program: Path, *files: Path) -> Path:
     return program
 
 
+@cache
 def static_library(crate: str) -> Path:
-    """Prove a crate of this repository and make its static library."""
+    """Prove a crate of this repository and make its static library; once, however often it is asked
+    for."""
     quietly(['rt', 'staticlib', crate], ROOT)
     return ROOT / 'target' / 'staticlib' / f'lib{crate}.a'
 

@@ -1,11 +1,11 @@
-"""Check that no public function of a library is without its proof of one answer and two wrong programs.
+"""Check that no public function of a library is without its proof of one answer and a wrong program.
 
 Public is what another crate can call: a `pub fn` of a library's lib.rt, or of a file that is
 declared there by `pub mod`. Each has an `ensures`; a theorem in its crate's proofs/OneAnswer.antt
 whose statement is `OneAnswer` of it and of its contract, with few exceptions, which are listed
-below; and a row in the table of docs/CLAIMS.md, which has no other rows and names two of its
-crate's must-fail edits. That
-the theorems are proved and the edits refused is for `rt` to say.
+below; and a row in the table of docs/CLAIMS.md, which has no other rows and names one or more wrong
+programs of its crate. Every wrong program that the claims name, as CRATE/NAME, is there. That the
+theorems are proved and the wrong programs refused is for `rt` to say.
 Prints a line for each failure and at the end `N passed, M failed`.
 """
 
@@ -15,6 +15,7 @@ from typing import NamedTuple
 
 from claims import CLAIMS, CRATES, ROOT, section
 from telling import told
+from wrong_programs import wrong_programs
 
 CRATE = re.compile(r'^(\w+):', re.MULTILINE)
 PUBLIC_MODULE = re.compile(r'^pub mod (\w+);', re.MULTILINE)
@@ -26,6 +27,7 @@ ENSURES = re.compile(r'^ *ensures\b', re.MULTILINE)
 THEOREM = re.compile(r'^pub (one-\S+) :(.*?)^\S', re.MULTILINE | re.DOTALL)
 NAMED_FUNCTION = re.compile(r'\bfn\.(\w+)\.')
 NAME = re.compile(r'`([^`]+)`')
+NAMED_PROGRAM = re.compile(r'`(\w+)/(\w+)`')
 NAMED_CONTRACT = re.compile(r'\bfn\.(\w+)\.(?:Reads\.Learnt|clauses)\b')
 
 # Crates of functions that are proved by hand: their theorems take a reading of the contract that
@@ -60,7 +62,7 @@ class Row(NamedTuple):
     crate: str
     function: str
     theorem: str
-    edits: list[str]
+    wrong: list[str]
 
     @property
     def key(self):
@@ -68,10 +70,9 @@ class Row(NamedTuple):
         return self.crate, self.function, self.theorem
 
     @property
-    def tried(self):
-        """The edits that are there, each once."""
-        folder = CRATES / self.crate / 'must-fail'
-        return {edit for edit in self.edits if (folder / f'{edit}.edit').exists()}
+    def programs(self):
+        """The wrong programs that it names, each with its crate."""
+        return {(self.crate, name) for name in self.wrong}
 
 
 def libraries():
@@ -118,8 +119,8 @@ def table():
     """The rows of the table: crate, function, what its contract fixes, theorem, wrong programs."""
     for line in section('One answer each').splitlines():
         if line.startswith('| `'):
-            crate, function, _, theorem, edits = (NAME.findall(cell) for cell in line.split('|')[1:-1])
-            yield Row(*crate, *function, *theorem, edits)
+            crate, function, _, theorem, wrong = (NAME.findall(cell) for cell in line.split('|')[1:-1])
+            yield Row(*crate, *function, *theorem, wrong)
 
 
 def checks_of_library(crate, rows):
@@ -139,6 +140,17 @@ def checks_of_library(crate, rows):
         yield f'{name}: rows in {CLAIMS.name}', 1, [row.key for row in rows].count(function.key)
 
 
+def checks_of_claims(rows):
+    """The checks that the wrong programs which the claims name are there."""
+    there = {(program.crate, program.name) for program in wrong_programs()}
+    for row in rows:
+        name = f'the row of {row.crate}::{row.function}'
+        yield f'{name} names a wrong program', True, bool(row.wrong)
+        yield f'{name} names none that is not there', set(), row.programs - there
+    named = {one for one in NAMED_PROGRAM.findall(CLAIMS.read_text('utf-8')) if one[0] in libraries()}
+    yield 'wrong programs of the claims that are not there', set(), named - there
+
+
 def all_checks():
     """The checks of every library, and of every row of the table."""
     rows = list(table())
@@ -150,7 +162,7 @@ def all_checks():
     for row in rows:
         name = f'the row of {row.crate}::{row.function}'
         yield f'{name} is about a public function', True, row.key in known
-        yield f'{name} names two edits of its crate', (2, 2), (len(row.edits), len(row.tried))
+    yield from checks_of_claims(rows)
 
 
 if __name__ == '__main__':

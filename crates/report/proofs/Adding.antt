@@ -25,8 +25,8 @@ pub record Said (t line : Bytes) (at : ℕ) : Type 0 where
   pub text : take at line ≡ t
 
 -- what is laid in the front is said first
-pub begun : {line : Bytes} {r : ℕ} (u : Bytes) → (r ≡ length u) × (take r line ≡ u) → Said u line r
-begun u (r, e) = record { size = r; text = e }
+pub begun : {line : Bytes} {r : ℕ} (u : Bytes) → (r ≡ 0 + length u) × (take r line ≡ u) → Said u line r
+begun u (r, e) = record { size = omega (arith, r); text = e }
 
 -- what is laid behind them is said after it
 pub more : {t line line′ : Bytes} {at r : ℕ} (u : Bytes) → Said t line at → (r ≡ at + length u) × (take r line′ ≡ take at line ++ u) → Said (t ++ u) line′ r

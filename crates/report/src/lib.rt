@@ -52,13 +52,22 @@ fn add_number(line: &mut [u8], at: usize, n: usize) -> usize
     add(line, at, &[digit(tens / 10), middle, last])
 }
 
+// Lays a number with its name before it, as " line 4", and answers where it ends.
+fn add_named(line: &mut [u8], at: usize, name: &[u8], n: usize) -> usize
+    requires { ⌜ (n < 1000) × (at + length (now name) + 3 ≤ length (now line)) ⌝ }
+    ensures { λ r. ⌜ r ≡ at + length (now (name .entry) ++ decimal n) ⌝ }
+    ensures { λ r. ⌜ take r (now (line .exit)) ≡ take at (now (line .entry)) ++ (now (name .entry) ++ decimal n) ⌝ }
+{
+    let behind = add(line, at, name);
+    add_number(line, behind, n)
+}
+
 fn compose_accepted(line: &mut [u8], n: usize, k: Break) -> usize
     requires { ⌜ (n < 1000) × (length (now line) ≡ 32) ⌝ }
     ensures { λ r. ⌜ r ≤ 32 ⌝ }
     ensures { λ r. ⌜ take r (now (line .exit)) ≡ spoken (accepted n k) ⌝ }
 {
-    let a = add(line, 0, b"accepted ");
-    let b = add_number(line, a, n);
+    let b = add_named(line, 0, b"accepted ", n);
     match k {
         Break::Lf => add(line, b, b" lines LF\n"),
         Break::CrLf => add(line, b, b" lines CRLF\n"),
@@ -73,10 +82,7 @@ fn add_place(line: &mut [u8], at: usize, fault: Fault) -> usize
     ensures { λ r. ⌜ take r (now (line .exit)) ≡ take at (now (line .entry)) ++ spokenPlace (paperFault fault .place) ⌝ }
 {
     match fault {
-        Fault::BadCharacter(_, place) => {
-            let a = add(line, at, b" byte ");
-            add_number(line, a, place)
-        }
+        Fault::BadCharacter(_, place) => add_named(line, at, b" byte ", place),
         _ => at,
     }
 }
@@ -86,10 +92,8 @@ fn compose_refused(line: &mut [u8], fault: Fault) -> usize
     ensures { λ r. ⌜ r ≤ 32 ⌝ }
     ensures { λ r. ⌜ take r (now (line .exit)) ≡ spoken (refused (paperFault fault)) ⌝ }
 {
-    let a = add(line, 0, b"refused ");
-    let b = add_number(line, a, number_of(fault) as usize);
-    let c = add(line, b, b" line ");
-    let d = add_number(line, c, line_of(fault));
+    let b = add_named(line, 0, b"refused ", number_of(fault) as usize);
+    let d = add_named(line, b, b" line ", line_of(fault));
     let e = add_place(line, d, fault);
     add(line, e, b"\n")
 }

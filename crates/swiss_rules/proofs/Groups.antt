@@ -1,16 +1,11 @@
--- A group of rules looks at no other lines than those that it takes; the group of a text. Assumes nothing.
+-- A group of rules looks at no other lines than those that it takes. Assumes nothing.
 use Prim.Native.Nat.{ℕ}
 use mathlib.Core.List.{List, [], _∷_}
 use mathlib.Core.Path.{_≡_, refl}
 use Rattle.sieve.specs.Bytes.{Bytes}
-use Rattle.sieve.specs.Kinds.{filled, atMost}
-use Rattle.sieve.specs.Rules.{Rule, When, line}
+use Rattle.sieve.specs.Rules.{line}
 use Rattle.swiss.specs.Swiss.{header, account, payment, reference, information}
 use Rattle.findings.specs.Findings.{finds, from}
-
--- a text of at most so many characters
-abbrev pub of-text : ℕ → When → ℕ → List Rule
-of-text n when most = filled n when ∷ atMost most n ∷ []
 
 module _ (ls : List Bytes) where
   abbrev l : ℕ → Bytes

@@ -1,4 +1,3 @@
-mod Addresses
 mod Groups
 mod References
 pub mod OneAnswer

@@ -1,5 +1,5 @@
 // The rules about a bill's lines, group by group of lines, in the order of the sieve. A group takes the lines that it is
-// about; those of seven lines take them out of the payload one by one. Once a rule is broken, later groups are left out.
+// about; those of seven lines are `swiss_address`'s. Once a rule is broken, later groups are left out.
 use digits::checks97;
 use findings::Finding;
 use findings::KEPT;
@@ -15,17 +15,19 @@ use places::line;
 use runs::longer_together;
 use runs::same;
 use swiss::limits;
+use swiss_address::address;
+use swiss_address::text;
+use swiss_address::vacant;
 ghost use mathlib.Core.List.{[], _∷_};
 ghost use mathlib.Core.Path.{_≡_};
-ghost use Prim.Native.Nat.{_≤_};
 ghost use Rattle.sieve.specs.Lines.{cut, linesOf};
 ghost use Rattle.sieve.specs.Mod97.{checks97};
 ghost use Rattle.sieve.specs.Mod10.{checks10};
 ghost use Rattle.swiss.specs.Forms.{qrr, scor};
-ghost use Rattle.swiss.specs.Swiss.{header, account, address, payment, reference, information, paired, pairing, together, rules};
+ghost use Rattle.swiss.specs.Swiss.{header, account, payment, reference, information, paired, pairing, together, rules};
 ghost use Rattle.findings.specs.Findings.{finds, from};
 ghost use Rattle.places.specs.Listed.{listed, Counted};
-ghost use Rattle.swiss_rules.specs.Parts.{absentIf, textFound, numberFound, addressee, locality, vacant, referenceOf, front, middle, back};
+ghost use Rattle.swiss_rules.specs.Parts.{numberFound, referenceOf, front, middle, back};
 
 // Lines 1 to 3.
 pub fn header(kind: &[u8], version: &[u8], coding: &[u8]) -> Finding
@@ -59,112 +61,6 @@ pub fn account(l: &[u8]) -> Finding
         return KEPT;
     }
     number(l, 4, swiss_forms::iban(l), checks97(l))
-}
-
-// A line of at most so many characters, which is not empty when that is asked.
-fn text(l: &[u8], n: usize, when: bool, most: usize) -> Finding
-    ensures { λ r. ⌜ r ≡ textFound (now (l .entry)) n when most ⌝ }
-{
-    let f = filled(KEPT, l, n, when);
-    at_most(f, l, n, most)
-}
-
-// The first four lines of an address that is there, from line n on: type, name, street, house number.
-fn addressee(payload: &[u8], places: &[u16; 68], n: usize) -> Finding
-    requires { ⌜ (now places ≡ listed (now payload)) × (1 ≤ n) × (n ≤ 28) ⌝ }
-    ensures { λ r. ⌜ r ≡ finds (addressee n) (linesOf (cut (now (payload .entry)))) ⌝ }
-{
-    let second = n + 1;
-    let third = n + 2;
-    let fourth = n + 3;
-    let kind = line(payload, places, n);
-    let f = filled(KEPT, kind, n, true);
-    let f = formed(f, kind, n, same(kind, &limits::STRUCTURED));
-    if f.number != 0 {
-        return f;
-    }
-    let f = text(
-        line(payload, places, second),
-        second,
-        true,
-        limits::NAME_MOST,
-    );
-    if f.number != 0 {
-        return f;
-    }
-    let f = at_most(
-        KEPT,
-        line(payload, places, third),
-        third,
-        limits::STREET_MOST,
-    );
-    if f.number != 0 {
-        return f;
-    }
-    at_most(
-        KEPT,
-        line(payload, places, fourth),
-        fourth,
-        limits::HOUSE_NUMBER_MOST,
-    )
-}
-
-// The other three: postcode, town, country.
-fn locality(payload: &[u8], places: &[u16; 68], n: usize) -> Finding
-    requires { ⌜ (now places ≡ listed (now payload)) × (1 ≤ n) × (n ≤ 28) ⌝ }
-    ensures { λ r. ⌜ r ≡ finds (locality n) (linesOf (cut (now (payload .entry)))) ⌝ }
-{
-    let fifth = n + 4;
-    let sixth = n + 5;
-    let seventh = n + 6;
-    let f = text(
-        line(payload, places, fifth),
-        fifth,
-        true,
-        limits::POSTCODE_MOST,
-    );
-    if f.number != 0 {
-        return f;
-    }
-    let f = text(line(payload, places, sixth), sixth, true, limits::TOWN_MOST);
-    if f.number != 0 {
-        return f;
-    }
-    let country = line(payload, places, seventh);
-    let f = filled(KEPT, country, seventh, true);
-    formed(f, country, seventh, swiss_forms::country(country))
-}
-
-// Seven lines from line n on that must be empty.
-fn vacant(payload: &[u8], places: &[u16; 68], n: usize) -> Finding
-    requires { ⌜ (now places ≡ listed (now payload)) × (1 ≤ n) × (n ≤ 28) ⌝ }
-    ensures { λ r. ⌜ r ≡ finds (vacant n) (linesOf (cut (now (payload .entry)))) ⌝ }
-{
-    let mut i = n;
-    while i < n + 7 {
-        let f = empty(KEPT, line(payload, places, i), i, true);
-        if f.number != 0 {
-            return f;
-        }
-        i += 1;
-    }
-    KEPT
-}
-
-// The seven lines of an address, from line n on.
-fn address(payload: &[u8], places: &[u16; 68], n: usize, optional: bool) -> Finding
-    requires { ⌜ (now places ≡ listed (now payload)) × (1 ≤ n) × (n ≤ 28) ⌝ }
-    ensures { λ r. ⌜ r ≡ finds (address n (absentIf optional n)) (linesOf (cut (now (payload .entry)))) ⌝ }
-{
-    let kind = line(payload, places, n);
-    if optional & (kind.len() == 0) {
-        return vacant(payload, places, n);
-    }
-    let f = addressee(payload, places, n);
-    if f.number != 0 {
-        return f;
-    }
-    locality(payload, places, n)
 }
 
 // Lines 19 and 20.

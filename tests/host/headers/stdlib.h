@@ -1,2 +1,3 @@
 #pragma once
 int atoi(const char *text);
+_Noreturn void _Exit(int status);

@@ -35,8 +35,9 @@ returns-2 : tie.Need-returns-2
 returns-2 c =
     let called = c .before .before in
     let read = called .before .before .before in
-    let start = c .before .before .before .before .before .before .before .before .before .before .before .before .before in
-    (rw (read .before .before .before .answer2 .given .1, rw (read .before .break-length .ensures, read .break-length2 .ensures) at (called .before .before .if1 .taken), ← start .pre .bytes-are) (called .lay-in-room .ensures .0), called .lay-in-room .ensures .1)
+    let answered = read .before .before .before in
+    let start = answered .before .before .before .before .before in
+    (rw (answered .answer2 .given .1, rw (read .before .break-length .ensures, read .break-length2 .ensures) at (called .before .before .if1 .taken), ← start .pre .bytes-are) (called .lay-in-room .ensures .0), called .lay-in-room .ensures .1)
 
 returns-3 : tie.Need-returns-3
 returns-3 c =

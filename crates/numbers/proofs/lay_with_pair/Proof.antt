@@ -13,6 +13,19 @@ use Rattle.numbers.proofs.Laid.{laid-first, laid-behind, pair-due, pair
 use Rattle.numbers.proofs.lay_with_pair.Statement.{statement}
 use Rattle.numbers.proofs.lay_with_pair.Tie as tie
 
+-- where each part was laid, from behind the one after it, and where all began
+abbrev behind-third : tie.After-lay-at4 → tie.After-lay-at3
+behind-third q = q .before .before .before .before
+
+abbrev behind-second : tie.After-lay-at4 → tie.After-lay-at2
+behind-second q = behind-third q .before .before .before .before
+
+abbrev behind-first : tie.After-lay-at4 → tie.After-lay-at
+behind-first q = behind-second q .before .before .before .before .before
+
+abbrev start : tie.After-lay-at4 → tie.Start
+start q = behind-first q .before .before .before .before .before .before
+
 add-second-at : tie.Need-add-second-at
 add-second-at c = search needs
 
@@ -45,24 +58,22 @@ part-set-pair-end c = search needs
 
 -- head, 00 and rest lie in the front of the destination
 abbrev text : (q : tie.After-lay-at4) → Bytes
-text q = let a = q .before .before .before .before .before .before .before .before .before .before .before .before .before .before .before .before .before .before .before .args in ((a .head .now ++ ascii "00") ++ a .first .now) ++ a .second .now
+text q = let a = start q .args in ((a .head .now ++ ascii "00") ++ a .first .now) ++ a .second .now
 
-text-length : (q : tie.After-lay-at4) → let a = q .before .before .before .before .before .before .before .before .before .before .before .before .before .before .before .before .before .before .before .args in 4 + length (a .first .now) + length (a .second .now) ≡ length (text q)
+text-length : (q : tie.After-lay-at4) → let a = start q .args in 4 + length (a .first .now) + length (a .second .now) ≡ length (text q)
 text-length q =
-    let start = q .before .before .before .before .before .before .before .before .before .before .before .before .before .before .before .before .before .before .before in
-    let a = start .args in
-    omega (arith, start .pre .parts .two, length-append (a .head .now) (ascii "00"), length-append (a .head .now ++ ascii "00") (a .first .now), length-append ((a .head .now ++ ascii "00") ++ a .first .now) (a .second .now))
+    let a = start q .args in
+    omega (arith, start q .pre .parts .two, length-append (a .head .now) (ascii "00"), length-append (a .head .now ++ ascii "00") (a .first .now), length-append ((a .head .now ++ ascii "00") ++ a .first .now) (a .second .now))
 
-laid : (q : tie.After-lay-at4) → q .lay-at4 .last .0 ≡ over (q .before .before .before .before .before .before .before .before .before .before .before .before .before .before .before .before .before .before .before .args .dest .now) (text q)
+laid : (q : tie.After-lay-at4) → q .lay-at4 .last .0 ≡ over (start q .args .dest .now) (text q)
 laid q =
-    let start = q .before .before .before .before .before .before .before .before .before .before .before .before .before .before .before .before .before .before .before in
-    let a = start .args in
-    let two = start .pre .parts .two in
+    let a = start q .args in
+    let two = start q .pre .parts .two in
     let four : length (a .head .now ++ ascii "00") ≡ 4 = omega (arith, length-append (a .head .now) (ascii "00")) in
     let more : length ((a .head .now ++ ascii "00") ++ a .first .now) ≡ 4 + length (a .first .now) = omega (arith, length-append (a .head .now ++ ascii "00") (a .first .now)) in
-    let first = q .before .before .before .before .before .before .before .before .before .before .before .before .before .lay-at .ensures ∙ laid-first (a .dest .now) (a .head .now) in
-    let second = q .before .before .before .before .before .before .before .before .lay-at2 .ensures ∙ ap (laidAt 2 (ascii "00")) first ∙ laid-behind (a .dest .now) (a .head .now) (ascii "00") 2 two in
-    let third = q .before .before .before .before .lay-at3 .ensures ∙ ap (laidAt 4 (a .first .now)) second ∙ laid-behind (a .dest .now) (a .head .now ++ ascii "00") (a .first .now) 4 four in
+    let first = behind-first q .lay-at .ensures ∙ laid-first (a .dest .now) (a .head .now) in
+    let second = behind-second q .lay-at2 .ensures ∙ ap (laidAt 2 (ascii "00")) first ∙ laid-behind (a .dest .now) (a .head .now) (ascii "00") 2 two in
+    let third = behind-third q .lay-at3 .ensures ∙ ap (laidAt 4 (a .first .now)) second ∙ laid-behind (a .dest .now) (a .head .now ++ ascii "00") (a .first .now) 4 four in
     q .lay-at4 .ensures
     ∙ ap (laidAt (4 + length (a .first .now)) (a .second .now)) third
     ∙ laid-behind (a .dest .now) ((a .head .now ++ ascii "00") ++ a .first .now) (a .second .now) (4 + length (a .first .now)) more
@@ -78,11 +89,10 @@ same-length c = search needs
 returns : tie.Need-returns
 returns c =
     let q = c .before .before .before .before .before .before in
-    let start = q .before .before .before .before .before .before .before .before .before .before .before .before .before .before .before .before .before .before .before in
-    let a = start .args in
+    let a = start q .args in
     let parts : text q ≡ a .head .now ++ (ascii "00" ++ (a .first .now ++ a .second .now)) = append-assoc (a .head .now ++ ascii "00") (a .first .now) (a .second .now) ∙ append-assoc (a .head .now) (ascii "00") (a .first .now ++ a .second .now) in
     paired-in-front (a .dest .now) (text q) (omega (arith, text-length q)) (text-length q) (laid q) (c .before .before .set-pair .ensures)
-    ∙ ap (over (a .dest .now)) (ap paired parts ∙ pair-due (a .head .now) (a .first .now ++ a .second .now) (start .pre .parts .two))
+    ∙ ap (over (a .dest .now)) (ap paired parts ∙ pair-due (a .head .now) (a .first .now ++ a .second .now) (start q .pre .parts .two))
 
 pub lay-with-pair-spec : {M : Type 1} → statement M
 lay-with-pair-spec =

@@ -1,15 +1,15 @@
 -- `report::add_place` meets its contract: BadCharacter alone points at a byte. Assumes nothing.
 use Prim.Native.Nat.{ℕ}
 use native.Mathlib.Omega.{arith}
-use mathlib.Core.List.{List, [], _∷_, _++_, append-assoc, append-nil}
+use mathlib.Core.List.{List, [], _∷_, append-nil}
 use mathlib.Core.Option.{none}
-use mathlib.Core.Path.{_≡_, refl, sym, ap, _∙_}
-use lib.ListN.{take}
+use mathlib.Core.Path.{_≡_, refl, sym}
+use lib.ListN.{length-append}
 use types.Run.{OneOf, miss}
 use denote.Enum.Declared.{tagOf}
 use Rattle.sieve.specs.declared.Fault.{Fault}
 use Rattle.sieve.specs.declared.Fault.the-variants.{NoBytes, TooManyBytes, BadCharacter, MixedBreaks, LineCount, NotFixedText, NotEmpty, Missing, TooLong, BadForm, BadCheckDigits, Unpaired, TooLongTogether, OutsideText, NoRoom, UnreadCoding}
-use Rattle.sieve.specs.Bytes.{Bytes, ascii}
+use Rattle.sieve.specs.Bytes.{ascii}
 use Rattle.sieve.specs.Paper.{paperFault}
 use Rattle.sieve.proofs.Fault.{the-type}
 use Rattle.report.specs.Spoken.{decimal}
@@ -43,37 +43,26 @@ points-nowhere (UnreadCoding i) h = refl
 enum-known-fault : tie.Need-enum-known-fault
 enum-known-fault c = search needs
 
-slice-aggregate-add : tie.Need-slice-aggregate-add
-slice-aggregate-add c = search needs
+slice-aggregate-add-named : tie.Need-slice-aggregate-add-named
+slice-aggregate-add-named c = search needs
 
-add-requires : tie.Need-add-requires
-add-requires c κs = search needs
-
-add-number-requires : tie.Need-add-number-requires
-add-number-requires c κs =
-    let at-known = c .before .before .before .before .before .before .before in
+add-named-requires : tie.Need-add-named-requires
+add-named-requires c κs =
+    let at-known = c .before .before .before in
     let at-start = at-known .before .before .before in
-    let small = rw (at-known .fault .given .1) at (at-start .pre .0) in
-    (small, omega (arith, c .before .before .before .add .ensures .0, at-start .pre .1))
+    (rw (at-known .fault .given .1) at (at-start .pre .0), omega (arith, at-start .pre .1))
 
 same-length : tie.Need-same-length
 same-length c = search needs
 
 returns : tie.Need-returns
 returns c =
-    let at-number = c .before .before in
-    let at-add = at-number .before .before .before .before in
-    let at-known = at-add .before .before .before .before in
-    let at-start = at-known .before .before .before in
-    let place = decimal (at-known .fault .given .0 .1 .0) in
-    let small = rw (at-known .fault .given .1) at (at-start .pre .0) in
-    rw (at-known .fault .given .1) (
-      omega (arith, at-number .add-number .ensures .0, at-add .add .ensures .0, few-digits _ small),
-      (
-        omega (arith, at-number .add-number .ensures .0, at-add .add .ensures .0),
-        at-number .add-number .ensures .1 ∙ ap (λ (t : Bytes). t ++ place) (at-add .add .ensures .1) ∙ append-assoc (take (at-start .args .at) (at-start .args .line .now)) (ascii " byte ") place,
-      ),
-    )
+    let at-named = c .before .before in
+    let at-known = at-named .before .before .before .before in
+    let (size, text) = at-named .add-named .ensures in
+    let place = at-known .fault .given .0 .1 .0 in
+    let small = rw (at-known .fault .given .1) at (at-known .before .before .before .pre .0) in
+    rw (at-known .fault .given .1) (omega (arith, size, length-append (ascii " byte ") (decimal place), few-digits place small), (size, text))
 
 returns-2 : tie.Need-returns-2
 returns-2 c = rw (points-nowhere (c .before .before .args .fault) (c .match .keys2)) (omega arith, (omega arith, sym (append-nil _)))
@@ -81,4 +70,4 @@ returns-2 c = rw (points-nowhere (c .before .before .args .fault) (c .match .key
 pub add-place-spec : {M : Type 1} → statement M
 add-place-spec =
     tie.close
-    (tie.spec enum-known-fault slice-aggregate-add add-requires add-number-requires same-length returns returns-2)
+    (tie.spec enum-known-fault slice-aggregate-add-named add-named-requires same-length returns returns-2)

@@ -4,7 +4,7 @@ use native.Mathlib.Omega.{arith}
 use mathlib.Core.List.{_++_, append-assoc}
 use mathlib.Core.Path.{_≡_, _∙_}
 use lib.Dec.{lit≤}
-use lib.ListN.{length, take}
+use lib.ListN.{length, take, length-append}
 use Rattle.sieve.specs.declared.Break.{Break}
 use Rattle.sieve.specs.declared.Break.the-variants.{Lf, CrLf}
 use Rattle.sieve.specs.Bytes.{Bytes, ascii}
@@ -15,40 +15,39 @@ use borrow.Author.Needs.{needs}
 use Rattle.report.proofs.compose_accepted.Statement.{statement}
 use Rattle.report.proofs.compose_accepted.Tie as tie
 
+-- where all began, from behind the count
+abbrev start : tie.After-slice-known2 → tie.Start
+start c = c .before .before .before .before .before .before
+
+-- a count of at most three digits is said
+upto-count : (c : tie.After-slice-known2) → c .before .before .add-named .result ≤ 12
+upto-count c =
+    let n = start c .args .n in
+    omega (arith, c .before .before .add-named .ensures .0, length-append (ascii "accepted ") (decimal n), few-digits n (start c .pre .0))
+
+slice-aggregate-add-named : tie.Need-slice-aggregate-add-named
+slice-aggregate-add-named c = search needs
+
+add-named-requires : tie.Need-add-named-requires
+add-named-requires c κs = search needs
+
+enum-told : tie.Need-enum-told
+enum-told c = search needs
+
 slice-aggregate-add : tie.Need-slice-aggregate-add
 slice-aggregate-add c = search needs
 
 add-requires : tie.Need-add-requires
-add-requires c κs = search needs
+add-requires c κs = let laid = c .before .before .before .before in omega (arith, upto-count laid, start laid .pre .1)
 
-add-number-requires : tie.Need-add-number-requires
-add-number-requires c κs = search needs
-
-enum-told : tie.Need-enum-told
-enum-told c = search needs
+enum-told-2 : tie.Need-enum-told-2
+enum-told-2 c = search needs
 
 slice-aggregate-add-2 : tie.Need-slice-aggregate-add-2
 slice-aggregate-add-2 c = search needs
 
 add-requires-2 : tie.Need-add-requires-2
-add-requires-2 c κs =
-    let at-add-number = c .before .before .before .before .before .before in
-    let at-add = at-add-number .before .before .before .before in
-    let at-start = at-add .before .before .before .before in
-    omega (arith, at-add-number .add-number .ensures .0, at-add .add .ensures .0, few-digits (at-start .args .n) (at-start .pre .0), at-start .pre .1)
-
-enum-told-2 : tie.Need-enum-told-2
-enum-told-2 c = search needs
-
-slice-aggregate-add-3 : tie.Need-slice-aggregate-add-3
-slice-aggregate-add-3 c = search needs
-
-add-requires-3 : tie.Need-add-requires-3
-add-requires-3 c κs =
-    let at-add-number = c .before .before .before .before .before .before in
-    let at-add = at-add-number .before .before .before .before in
-    let at-start = at-add .before .before .before .before in
-    omega (arith, at-add-number .add-number .ensures .0, at-add .add .ensures .0, few-digits (at-start .args .n) (at-start .pre .0), at-start .pre .1)
+add-requires-2 c κs = let laid = c .before .before .before .before in omega (arith, upto-count laid, start laid .pre .1)
 
 same-length : tie.Need-same-length
 same-length c = search needs
@@ -61,23 +60,37 @@ short-end : (k : Break) → length (end k) ≤ 12
 short-end Lf = lit≤ tt
 short-end CrLf = lit≤ tt
 
-whole : (c : tie.After-slice-known3) (k : Break) (r : ℕ) (line : Bytes)
-    → (r ≡ c .before .before .add-number .result + length (end k)) × (take r line ≡ take (c .before .before .add-number .result) (c .before .before .add-number .last .0) ++ end k)
-    → (r ≤ 32) × (take r line ≡ spoken (accepted (c .before .before .before .before .before .before .before .before .before .before .args .n) k))
+whole : (c : tie.After-slice-known2) (k : Break) (r : ℕ) (line : Bytes)
+    → (r ≡ c .before .before .add-named .result + length (end k)) × (take r line ≡ take (c .before .before .add-named .result) (c .before .before .add-named .last .0) ++ end k)
+    → (r ≤ 32) × (take r line ≡ spoken (accepted (start c .args .n) k))
 unfolding spoken
 whole c k r line e =
-    let a = c .before .before .before .before .before .before .before .before .before .before in
-    let s = more (end k) (more (decimal (a .args .n)) (begun (ascii "accepted ") (c .before .before .before .before .before .before .add .ensures)) (c .before .before .add-number .ensures)) e in
-    (omega (arith, e .0, c .before .before .add-number .ensures .0, c .before .before .before .before .before .before .add .ensures .0, few-digits (a .args .n) (a .pre .0), short-end k), s .text ∙ append-assoc (ascii "accepted ") (decimal (a .args .n)) (end k))
+    let n = start c .args .n in
+    let s = more (end k) (begun (ascii "accepted " ++ decimal n) (c .before .before .add-named .ensures)) e in
+    (omega (arith, e .0, upto-count c, short-end k), s .text ∙ append-assoc (ascii "accepted ") (decimal n) (end k))
 
 returns : tie.Need-returns
-returns c = rw (c .before .before .before .before .before .enum-told .given .1) (whole (c .before .before .before .before .before .before .before) Lf _ _ (c .before .before .add2 .ensures))
+returns c = rw (c .before .before .before .before .before .enum-told .given .1) (whole (c .before .before .before .before .before .before .before) Lf _ _ (c .before .before .add .ensures))
 
 same-length-2 : tie.Need-same-length-2
 same-length-2 c = search needs
 
 returns-2 : tie.Need-returns-2
-returns-2 c = rw (c .before .before .before .before .before .enum-told2 .given .1) (whole (c .before .before .before .before .before .before .before) CrLf _ _ (c .before .before .add3 .ensures))
+returns-2 c = rw (c .before .before .before .before .before .enum-told2 .given .1) (whole (c .before .before .before .before .before .before .before) CrLf _ _ (c .before .before .add2 .ensures))
 
 pub compose-accepted-spec : {M : Type 1} → statement M
-compose-accepted-spec = tie.close (tie.spec slice-aggregate-add add-requires add-number-requires enum-told slice-aggregate-add-2 add-requires-2 enum-told-2 slice-aggregate-add-3 add-requires-3 same-length returns same-length-2 returns-2)
+compose-accepted-spec =
+    tie.close
+    (tie.spec
+    slice-aggregate-add-named
+    add-named-requires
+    enum-told
+    slice-aggregate-add
+    add-requires
+    enum-told-2
+    slice-aggregate-add-2
+    add-requires-2
+    same-length
+    returns
+    same-length-2
+    returns-2)

@@ -1,104 +1,125 @@
 -- `report::compose_refused` meets its contract. Assumes nothing.
-use Prim.Native.Nat.{_≤_}
+use Prim.Native.Nat.{ℕ, _≤_}
 use native.Mathlib.Omega.{arith}
 use mathlib.Core.List.{_++_, append-assoc}
-use mathlib.Core.Path.{_≡_, _∙_}
+use mathlib.Core.Path.{_≡_, ap, _∙_}
+use lib.ListN.{length-append}
 use Rattle.sieve.specs.Bytes.{Bytes, ascii}
 use Rattle.sieve.specs.Paper.{paperFault}
+use Rattle.sieve.specs.Verdict.{refused}
+use Rattle.sieve.specs.declared.Fault.{Fault}
 use Rattle.report.specs.Spoken.{decimal, lineEnd, spokenPlace, spoken}
 use Rattle.report.proofs.Adding.{begun, more, few-digits}
 use borrow.Author.Needs.{needs}
 use Rattle.report.proofs.compose_refused.Statement.{statement}
 use Rattle.report.proofs.compose_refused.Tie as tie
 
-slice-aggregate-add : tie.Need-slice-aggregate-add
-slice-aggregate-add c = search needs
+-- where the number was asked for, from behind it, and where all began
+abbrev number-asked : tie.After-slice-known2 → tie.After-number-of
+number-asked c = c .before .before .before
 
-add-requires : tie.Need-add-requires
-add-requires c κs = search needs
+abbrev start : tie.After-slice-known2 → tie.Start
+start c = number-asked c .before .before .before .before
+
+-- where the line was asked for, from behind it, and the number before that
+abbrev line-asked : tie.After-slice-known3 → tie.After-line-of
+line-asked c = c .before .before .before
+
+abbrev number-laid : tie.After-line-of → tie.After-slice-known2
+number-laid c = c .before .before .before
+
+-- where the line was laid, from behind the place
+abbrev line-laid : tie.After-add-place → tie.After-slice-known3
+line-laid c = c .before .before
+
+slice-aggregate-add-named : tie.Need-slice-aggregate-add-named
+slice-aggregate-add-named c = search needs
 
 number-of-requires : tie.Need-number-of-requires
 number-of-requires c κs = search needs
 
-cast-add-number : tie.Need-cast-add-number
-cast-add-number c = search needs
+cast-add-named : tie.Need-cast-add-named
+cast-add-named c = search needs
 
-add-number-requires : tie.Need-add-number-requires
-add-number-requires c κs = search needs
+add-named-requires : tie.Need-add-named-requires
+add-named-requires c κs = search needs
 
-slice-aggregate-add-2 : tie.Need-slice-aggregate-add-2
-slice-aggregate-add-2 c = search needs
+slice-aggregate-add-named-2 : tie.Need-slice-aggregate-add-named-2
+slice-aggregate-add-named-2 c = search needs
 
 -- a number of at most three digits is said
-upto-number : (c : tie.After-slice-known3) → c .before .before .add-number .result ≤ 11
+upto-number : (c : tie.After-slice-known2) → c .before .before .add-named .result ≤ 11
 upto-number c =
-    let at-add = c .before .before .before .before .before .before .before in
-    let n = c .before .before .before .number-of in
-    let a = c .before .before .before .before .before .before .before .before .before .before .before in
-    omega (arith, c .before .before .add-number .ensures .0, at-add .add .ensures .0, few-digits (n .result) (rw (n .ensures) (a .pre .0 .0)))
-
-add-requires-2 : tie.Need-add-requires-2
-add-requires-2 c κs =
-    let at-start = c .before .before .before .before .before .before .before .before .before .before .before .before .before in
-    omega (arith, upto-number (c .before .before), at-start .pre .1)
-
-upto-line : (c : tie.After-slice-known4) → c .before .before .add2 .result ≤ 17
-upto-line c = omega (arith, c .before .before .add2 .ensures .0, upto-number (c .before .before .before .before .before))
+    let n = number-asked c .number-of in
+    omega (arith, c .before .before .add-named .ensures .0, length-append (ascii "refused ") (decimal (n .result)), few-digits (n .result) (rw (n .ensures) (start c .pre .0 .0)))
 
 line-of-requires : tie.Need-line-of-requires
 line-of-requires c κs = search needs
 
-add-number-requires-2 : tie.Need-add-number-requires-2
-add-number-requires-2 c κs =
-    let at-start = c .before .before .before .before .before .before .before .before .before .before .before .before .before .before .before .before .before .before in
-    (rw (c .line-of .ensures) (at-start .pre .0 .1), omega (arith, upto-line (c .before .before), at-start .pre .1))
+add-named-requires-2 : tie.Need-add-named-requires-2
+add-named-requires-2 c κs =
+    let (short, room) = start (number-laid c) .pre in
+    (rw (c .line-of .ensures) (short .1), omega (arith, upto-number (number-laid c), room))
 
 -- the line too
-upto-place : (c : tie.After-slice-known5) → c .before .before .add-number2 .result ≤ 20
+upto-place : (c : tie.After-slice-known3) → c .before .before .add-named2 .result ≤ 20
 upto-place c =
-    let at-line-of = c .before .before .before in
-    let (_, line, _) = at-line-of .before .before .before .before .before .before .before .before .before .before .before .before .before .before .before .before .before .before .pre .0 in
-    omega (arith, upto-line (c .before .before .before .before .before), c .before .before .add-number2 .ensures .0, few-digits (at-line-of .line-of .result) (rw (at-line-of .line-of .ensures) line))
+    let asked = line-asked c in
+    let (_, line, _) = start (number-laid asked) .pre .0 in
+    omega (arith, upto-number (number-laid asked), c .before .before .add-named2 .ensures .0, length-append (ascii " line ") (decimal (asked .line-of .result)), few-digits (asked .line-of .result) (rw (asked .line-of .ensures) line))
 
 add-place-requires : tie.Need-add-place-requires
 add-place-requires c κs =
-    let at-start = c .before .before .before .before .before .before .before .before .before .before .before .before .before .before .before .before .before .before .before .before .before .before in
-    let (_, _, place) = at-start .pre .0 in
-    (omega (arith, place), omega (arith, upto-place (c .before), at-start .pre .1))
+    let ((_, _, place), room) = start (number-laid (line-asked (c .before))) .pre in
+    (omega (arith, place), omega (arith, upto-place (c .before), room))
 
-slice-aggregate-add-3 : tie.Need-slice-aggregate-add-3
-slice-aggregate-add-3 c = search needs
+-- and the place
+upto-end : (c : tie.After-add-place) → c .add-place .result ≤ 29
+upto-end c = omega (arith, c .add-place .ensures .0, upto-place (line-laid c))
 
-add-requires-3 : tie.Need-add-requires-3
-add-requires-3 c κs =
-    let at-start = c .before .before .before .before .before .before .before .before .before .before .before .before .before .before .before .before .before .before .before .before .before .before .before .before .before .before .before in
-    omega (arith, upto-place (c .before .before .before .before .before .before), c .before .before .before .before .add-place .ensures .0, at-start .pre .1)
+slice-aggregate-add : tie.Need-slice-aggregate-add
+slice-aggregate-add c = search needs
+
+add-requires : tie.Need-add-requires
+add-requires c κs = omega (arith, upto-end (c .before .before .before .before), start (number-laid (line-asked (line-laid (c .before .before .before .before)))) .pre .1)
 
 same-length : tie.Need-same-length
 same-length c = search needs
 
--- six texts, one behind the other
-six : (a b c d e f : Bytes) → ((((a ++ b) ++ c) ++ d) ++ e) ++ f ≡ a ++ (b ++ (c ++ (d ++ (e ++ f))))
-six a b c d e f = append-assoc (((a ++ b) ++ c) ++ d) e f ∙ append-assoc ((a ++ b) ++ c) d (e ++ f) ∙ append-assoc (a ++ b) c (d ++ (e ++ f)) ∙ append-assoc a b (c ++ (d ++ (e ++ f)))
+-- six texts, two and two of them laid together
+six : (a b c d e f : Bytes) → (((a ++ b) ++ (c ++ d)) ++ e) ++ f ≡ a ++ (b ++ (c ++ (d ++ (e ++ f))))
+six a b c d e f = append-assoc ((a ++ b) ++ (c ++ d)) e f ∙ append-assoc (a ++ b) (c ++ d) (e ++ f) ∙ append-assoc a b ((c ++ d) ++ (e ++ f)) ∙ ap (λ (t : Bytes). a ++ (b ++ t)) (append-assoc c d (e ++ f))
+
+-- they are what is spoken of a refusal
+all-said : (f : Fault) (n l : ℕ) → n ≡ paperFault f .number → l ≡ paperFault f .line → (((ascii "refused " ++ decimal n) ++ (ascii " line " ++ decimal l)) ++ spokenPlace (paperFault f .place)) ++ lineEnd ≡ spoken (refused (paperFault f))
+unfolding spoken
+all-said f n l e g = six (ascii "refused ") (decimal n) (ascii " line ") (decimal l) (spokenPlace (paperFault f .place)) lineEnd ∙ rw (e, g)
 
 returns : tie.Need-returns
-unfolding spoken
 returns c =
-    let at-add-place = c .before .before .before .before .before .before .before in
-    let at-add-number-2 = at-add-place .before .before .before .before in
-    let at-line-of = at-add-number-2 .before in
-    let at-add-2 = at-line-of .before .before .before .before in
-    let at-add-number = at-add-2 .before .before .before .before .before in
-    let at-number-of = at-add-number .before in
-    let at-add = at-number-of .before .before .before .before in
-    let at-start = at-add .before .before .before .before in
-    let line = at-line-of .line-of in
-    let number = at-number-of .number-of in
-    let place = paperFault (at-start .args .fault) .place in
-    let s = more lineEnd (more (spokenPlace place) (more (decimal (line .result)) (more (ascii " line ") (more (decimal (number .result)) (begun (ascii "refused ") (at-add .add .ensures)) (at-add-number .add-number .ensures)) (at-add-2 .add2 .ensures)) (at-add-number-2 .add-number2 .ensures)) (at-add-place .add-place .ensures .1)) (c .before .before .add3 .ensures) in (
-      omega (arith, c .before .before .add3 .ensures .0, at-add-place .add-place .ensures .0, upto-place (c .before .before .before .before .before .before .before .before .before)),
-      s .text ∙ six (ascii "refused ") (decimal (number .result)) (ascii " line ") (decimal (line .result)) (spokenPlace place) lineEnd ∙ rw (line .ensures, number .ensures),
-    )
+    let at-place = c .before .before .before .before .before .before .before in
+    let at-line = line-laid at-place in
+    let asked = line-asked at-line in
+    let at-number = number-laid asked in
+    let fault = start at-number .args .fault in
+    let line = asked .line-of in
+    let number = number-asked at-number .number-of in
+    let s = more lineEnd (more (spokenPlace (paperFault fault .place)) (more (ascii " line " ++ decimal (line .result)) (begun (ascii "refused " ++ decimal (number .result)) (at-number .before .before .add-named .ensures)) (at-line .before .before .add-named2 .ensures)) (at-place .add-place .ensures .1)) (c .before .before .add .ensures) in
+    (omega (arith, c .before .before .add .ensures .0, upto-end at-place), s .text ∙ all-said fault (number .result) (line .result) (number .ensures) (line .ensures))
 
 pub compose-refused-spec : {M : Type 1} → statement M
-compose-refused-spec = tie.close (tie.spec slice-aggregate-add add-requires number-of-requires cast-add-number add-number-requires slice-aggregate-add-2 add-requires-2 line-of-requires add-number-requires-2 add-place-requires slice-aggregate-add-3 add-requires-3 same-length returns)
+compose-refused-spec =
+    tie.close
+    (tie.spec
+    slice-aggregate-add-named
+    number-of-requires
+    cast-add-named
+    add-named-requires
+    slice-aggregate-add-named-2
+    line-of-requires
+    add-named-requires-2
+    add-place-requires
+    slice-aggregate-add
+    add-requires
+    same-length
+    returns)

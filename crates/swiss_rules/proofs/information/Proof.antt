@@ -13,6 +13,14 @@ use borrow.Author.Needs.{needs}
 use Rattle.swiss_rules.proofs.information.Statement.{statement}
 use Rattle.swiss_rules.proofs.information.Tie as tie
 
+-- where the message was passed, from behind the trailer, and where all began
+
+abbrev passed-message : tie.Else2 → tie.Else1
+passed-message c = c .before .before .before .before
+
+abbrev start : tie.Else2 → tie.Start
+start c = passed-message c .before .before .before .before .before .before
+
 at-most-requires : tie.Need-at-most-requires
 at-most-requires c κs = search needs
 
@@ -36,12 +44,12 @@ at-most-requires-2 : tie.Need-at-most-requires-2
 at-most-requires-2 c κs = search needs
 
 -- what is found behind a message and a trailer that keep their rules
-behind-trailer : (c : tie.Else2) {g : Finding} → let s = c .before .before .before .before .before .before .before .before .before .before in
+behind-trailer : (c : tie.Else2) {g : Finding} → let s = start c in
     let ls = from 30 (s .args .message .now ∷ s .args .trailer .now ∷ s .args .billing .now ∷ []) in
     g ≡ finds (atMost billingMost 32 ∷ formed 32 (has 32 billing) ∷ []) ls → g ≡ finds information ls
 unfolding looked numbered
 behind-trailer c e =
-    let at-if-1 = c .before .before .before .before in
+    let at-if-1 = passed-message c in
     chain-passed _ (atMost messageMost 30 ∷ []) _ refl (at-if-1 .before .before .at-most .ensures) (at-if-1 .if1 .left)
     (chain-passed _ (fixed 31 trailer ∷ []) _ refl (c .before .before .fixed .ensures) (c .if2 .left) e)
 

@@ -6,7 +6,8 @@ use Rattle.sieve.specs.Rules.{isEmpty}
 use Rattle.swiss.specs.Swiss.{payment, address}
 use Rattle.findings.specs.Findings.{finds}
 use Rattle.findings.proofs.Looking.{numbered, group-stops, group-passed}
-use Rattle.swiss_rules.specs.Parts.{emptyFrom, vacant, middle}
+use Rattle.swiss_address.specs.Addresses.{emptyFrom, vacant}
+use Rattle.swiss_rules.specs.Parts.{middle}
 use Rattle.swiss_rules.proofs.Groups.{of-payment}
 use borrow.Author.Needs.{needs}
 use Rattle.swiss_rules.proofs.middle.Statement.{statement}

@@ -1,2 +1,0 @@
-pub mod RecordsLie
-pub mod OneAnswer

@@ -1,0 +1,3 @@
+mod Addresses
+pub mod OneAnswer
+pub mod Texts

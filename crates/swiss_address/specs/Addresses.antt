@@ -1,0 +1,52 @@
+-- What is found in a text; seven lines from line n on, an address that may be absent, one that is there and one that is not. Assumes nothing.
+use Prim.Native.Nat.{ℕ, zero, suc, _+_, _≤_}
+use mathlib.Core.Bool.{Bool, _&&_}
+use mathlib.Core.List.{List, [], _∷_}
+use mathlib.Core.Option.{none}
+use mathlib.Core.Path.{_≡_}
+use lib.Dec.{ltb}
+use Rattle.sieve.specs.Bytes.{Bytes}
+use Rattle.sieve.specs.Characters.{characters}
+use Rattle.sieve.specs.Kinds.{empty, filled, atMost, formed}
+use Rattle.sieve.specs.Rules.{Rule, When, noText, isEmpty, is, has, always}
+use Rattle.swiss.specs.Forms.{country}
+use Rattle.swiss.specs.Limits.{nameMost, streetMost, houseNumberMost, postcodeMost, townMost, structured}
+use Rattle.findings.specs.declared.Finding.{Finding}
+use Rattle.findings.specs.Findings.{small, after}
+use Rattle.places.specs.Listed.{listed}
+
+-- what is found in a line of at most so many characters, which is not empty when that is asked
+abbrev pub textFound : Bytes → ℕ → Bool → ℕ → Finding
+textFound l n when most = after (after (small none) (when && noText l) 8 n) (ltb most (characters l)) 9 n
+
+-- the places are those of a payload's lines, and there is room for seven from line n on
+abbrev pub SevenFrom : Bytes → List ℕ → ℕ → Type 0
+SevenFrom p places n = (places ≡ listed p) × (1 ≤ n) × (n ≤ 28)
+
+-- an address that may be absent is, where its first line is empty
+abbrev pub absentIf : Bool → ℕ → When
+absentIf optional n ls = optional && isEmpty n ls
+
+-- an address that is there, from line n on: its first four lines, and the other three
+abbrev pub addressee : ℕ → List Rule
+addressee n =
+    filled n always ∷ formed n (is n structured)
+    ∷ filled (n + 1) always ∷ atMost nameMost (n + 1)
+    ∷ atMost streetMost (n + 2)
+    ∷ atMost houseNumberMost (n + 3)
+    ∷ []
+
+abbrev pub locality : ℕ → List Rule
+locality n =
+    filled (n + 4) always ∷ atMost postcodeMost (n + 4)
+    ∷ filled (n + 5) always ∷ atMost townMost (n + 5)
+    ∷ filled (n + 6) always ∷ formed (n + 6) (has (n + 6) country)
+    ∷ []
+
+-- so many lines from line n on that must be empty; seven of them
+unfoldable pub emptyFrom : ℕ → ℕ → List Rule
+emptyFrom n zero = []
+emptyFrom n (suc k) = empty n always ∷ emptyFrom (n + 1) k
+
+abbrev pub vacant : ℕ → List Rule
+vacant n = emptyFrom n 7

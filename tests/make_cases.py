@@ -1,0 +1,123 @@
+"""Make the records that the program `cases` is run on, and what it has to write for each.
+
+R and a payload: those of all cases, in their order, and runs of characters and breaks. W and a call of
+the writer: those of tests/writer_calls.py. What is to be written is the reference's answer with the
+byte's place, and of a payload what a viewer hands out. Of a payload only the first 2,000 bytes are
+stored: past 997 it does not matter how many there are.
+
+With `--check` it writes no file: it compares the stored files with what it would make, once for each
+record. It prints a line for each failure and at the end `N passed, M failed`.
+"""
+
+import sys
+from itertools import zip_longest
+from pathlib import Path
+
+from casefile import read_cases
+from framing import framed, number, records
+from reference.qrbill import BREAKS, Accepted, Refused, read, write
+from telling import told
+from text_payloads import runs
+from writer_calls import calls
+
+CRATE = Path(__file__).resolve().parent.parent / 'crates' / 'cases'
+
+MOST_STORED = 2000  # bytes of a payload
+MOST_RECORD = 65536  # bytes of a record that the program can hold
+MOST_NUMBERS, MOST_ROOM = 70, 1200  # of a list and of a destination, in the program
+NUMBER_BYTES = 2
+DONE = b'.0:'  # what is written of a viewer that is done: an empty part
+
+
+def told_of(*numbers):
+    """Three numbers in a line."""
+    return b'%d %d %d\n' % numbers
+
+
+def answer_line(answer, accepted):
+    """The line about an answer: a refusal's number, line and place, or what else is to be told."""
+    if isinstance(answer, Refused):
+        return told_of(answer.number, answer.line, answer.byte or 0)
+    return told_of(0, *accepted(answer))
+
+
+def kind_of(brk):
+    """The number of a kind of break: 1 for LF, 2 for CR LF."""
+    return 1 + list(BREAKS).index(brk)
+
+
+def view_line(payload, answer):
+    """The line with what a viewer hands out: each line of an accepted payload, and then that it is
+    done, twice."""
+    entries = answer.places[:2 * answer.lines] if isinstance(answer, Accepted) else []
+    lines = [payload[start:start + length] for start, length in zip(entries[::2], entries[1::2])]
+    return b''.join(b'+%d:%s' % (len(text), text) for text in lines) + 2 * DONE + b'\n'
+
+
+def reading(payload):
+    """The record of a payload, and what is to be written of it."""
+    answer = read(payload)
+    told_line = answer_line(answer, lambda some: (some.lines, kind_of(some.brk)))
+    return framed(b'R' + payload), told_line + view_line(payload, answer)
+
+
+def writing(call):
+    """The record of a call of the writer, and what is to be written of it."""
+    head = [call.count, kind_of(call.brk), call.room, len(call.places)]
+    numbers = b''.join(number(value, NUMBER_BYTES) for value in head + call.places)
+    answer = write(call.text, call.places, call.count, call.brk, call.room)
+    line = answer_line(answer, lambda some: (len(some.data), 0))
+    return framed(b'W' + numbers + call.text), line
+
+
+def make():
+    """For each record a name, and the record with what is to be written."""
+    for case in read_cases():
+        yield case.name, reading(case.payload[:MOST_STORED])
+    for place, run in enumerate(runs(), start=1):
+        yield f'run {place}', reading(run)
+    for place, call in enumerate(calls(), start=1):
+        yield f'call {place}', writing(call)
+
+
+def kept(stdin, stdout):
+    """Each stored record with what is stored as written of it: two lines for R, else one. What a
+    viewer hands out may hold a break, so a part of it is passed by its length."""
+    at = 0
+    for record in records(stdin):
+        end = stdout.find(b'\n', at) + 1
+        if record[4:5] == b'R':
+            while stdout[end:end + 1] in (b'+', b'.'):
+                colon = stdout.index(b':', end)
+                end = colon + 1 + int(stdout[end + 1:colon])
+            end += 1
+        yield record, stdout[at:end]
+        at = end
+    if at < len(stdout):
+        yield b'', stdout[at:]
+
+
+def checks():
+    """Each check as its name, what should be there, and what is."""
+    stored = kept(*((CRATE / name).read_bytes() for name in ('stdin', 'stdout')))
+    for made, got in zip_longest(make(), stored):
+        name, expected = made or ('past the last record', None)
+        yield name, expected, got
+    yield 'records that the program can hold', True, all(
+        len(record) <= MOST_RECORD for _, (record, _) in make())
+    yield 'calls that the program can make', True, all(
+        len(call.places) <= MOST_NUMBERS and call.room <= MOST_ROOM for call in calls())
+
+
+def main():
+    """Write the two files, or check them."""
+    if sys.argv[1:] == ['--check']:
+        return told(checks())
+    inputs, outputs = zip(*(pair for _, pair in make()))
+    (CRATE / 'stdin').write_bytes(b''.join(inputs))
+    (CRATE / 'stdout').write_bytes(b''.join(outputs))
+    return 0
+
+
+if __name__ == '__main__':
+    sys.exit(main())
