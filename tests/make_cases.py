@@ -48,10 +48,10 @@ def kind_of(brk):
 
 def view_line(payload, answer):
     """The line with what a viewer hands out: each line of an accepted payload, and then that it is
-    done, twice."""
+    done, where the lines end, one move after that and after a million moves."""
     entries = answer.places[:2 * answer.lines] if isinstance(answer, Accepted) else []
     lines = [payload[start:start + length] for start, length in zip(entries[::2], entries[1::2])]
-    return b''.join(b'+%d:%s' % (len(text), text) for text in lines) + 2 * DONE + b'\n'
+    return b''.join(b'+%d:%s' % (len(text), text) for text in lines) + 3 * DONE + b'\n'
 
 
 def reading(payload):

@@ -4,10 +4,10 @@
 // is about. For R and a payload a line has a refusal's number, line and place, or 0, the line count and the kind of break,
 // 1 for LF and 2 for CR LF. A second line has what a viewer of the payload hands out, opened anew and moved on 0, 1, 2, ..
 // times: `+` where it is not done and `.` where it is, the length of the part that it hands out, a colon, and the part. It
-// ends one move after the viewer is done. For W and a call of the writer a line has a refusal's number, line and place,
-// or 0, the length and 0. The call is given two bytes to a number, the low one first: the count of lines, the break (1 for
-// LF, 2 for CR LF), how many bytes the destination has, how many numbers the list has, and those numbers. The rest of the
-// record is the text.
+// ends one move after the viewer is done, and with what it hands out after a million moves. For W and a call of the writer
+// a line has a refusal's number, line and place, or 0, the length and 0. The call is given two bytes to a number, the low
+// one first: the count of lines, the break (1 for LF, 2 for CR LF), how many bytes the destination has, how many numbers
+// the list has, and those numbers. The rest of the record is the text.
 use libc::STDIN_FILENO;
 use libc::STDOUT_FILENO;
 use sieve::Answer;
@@ -81,13 +81,17 @@ fn write_after(payload: &[u8], moves: usize) -> bool {
 // More moves than a bill has lines.
 const MOST_MOVES: usize = 64;
 
-// Writes what a viewer hands out until it is done, and once more after that.
+// More than any caller makes one by one: what a viewer hands out then takes no longer, and no more room.
+const MANY_MOVES: usize = 1000000;
+
+// Writes what a viewer hands out until it is done, one move after that, and after a million moves.
 fn write_view(payload: &[u8]) {
     let mut moves = 0;
     while moves < MOST_MOVES && write_after(payload, moves) {
         moves += 1;
     }
     write_after(payload, moves + 1);
+    write_after(payload, MANY_MOVES);
     io::write_all(STDOUT_FILENO, b"\n");
 }
 

@@ -3,5 +3,4 @@ pub mod Standing
 pub mod Places
 pub mod Promise
 pub mod Taken
-pub mod Reaching
 pub mod OneAnswer

@@ -1,5 +1,5 @@
 -- From line to line: what the line finder says of a viewer's line and of its next place. Assumes nothing.
-use Prim.Native.Nat.{ℕ, _≤_}
+use Prim.Native.Nat.{ℕ, _+_, _≤_}
 use native.Mathlib.Omega.{arith}
 use mathlib.Core.Path.{_≡_, sym}
 use mathlib.Core.Logic.{_≢_}
@@ -17,6 +17,13 @@ use Rattle.viewer.specs.View.{past, nextFrom, lineFrom}
 pub no-bytes : (p : Bytes) (at : ℕ) → length p ≤ at → lineFrom p at ≡ []
 unfolding lineFrom cut
 no-bytes p at h = rw (lineFrom, drop-of-length-le p h)
+
+-- past the last line there is no next one
+pub stays-past : (p : Bytes) → nextFrom p (past p) ≡ past p
+unfolding nextFrom breakWidth
+stays-past p =
+    let none : past p + 0 ≡ past p = omega arith in
+    rw (no-bytes p (past p) (omega arith), none, drop-of-length-le p {i = past p} (omega arith))
 
 module _ (p : Bytes) (at : ℕ) (r : LineAt) (is : IsLineAt p at r) where
   -- no break follows

@@ -1,12 +1,13 @@
--- Where a viewer stands that was opened and moved on, by the contracts of `open`, `next` and `moved` alone. Assumes nothing.
+-- Where a viewer stands that was opened and moved on, by the contracts of `open` and `next` alone. Assumes nothing.
 use Prim.Native.Nat.{ℕ, zero, suc}
 use mathlib.Core.Bool.{Bool}
 use mathlib.Core.Path.{_≡_, refl, subst, _∙_, ap}
 use denote.Ref.{RefT, now}
 use Rattle.sieve.specs.Bytes.{Bytes}
-use Rattle.viewer.specs.View.{isDone, nextFrom, standing, movedFrom}
-use Rattle.viewer.specs.Held.{IsOpened, IsNext, IsLine, IsMoved}
+use Rattle.viewer.specs.View.{past, isDone, nextFrom, standing, movedFrom}
+use Rattle.viewer.specs.Held.{IsOpened, IsNext, IsLine}
 use Rattle.viewer.specs.declared.Viewer.{Viewer}
+use Rattle.viewer.proofs.Onward.{stays-past}
 
 -- one move more, at the end as at the front
 move-last : (p : Bytes) (i at : ℕ) → movedFrom p i (nextFrom p at) ≡ nextFrom p (movedFrom p i at)
@@ -18,6 +19,12 @@ pub moved-standing : (p : Bytes) (i : ℕ) → movedFrom p i (standing p 0) ≡ 
 unfolding movedFrom standing
 moved-standing p zero = refl
 moved-standing p (suc i) = move-last p i (standing p 0) ∙ ap (nextFrom p) (moved-standing p i)
+
+-- past the last line no move changes anything
+pub no-further : (p : Bytes) (i : ℕ) → movedFrom p i (past p) ≡ past p
+unfolding movedFrom
+no-further p zero = refl
+no-further p (suc i) = ap (movedFrom p i) (stays-past p) ∙ no-further p i
 
 -- a viewer of the payload s that was moved on i times
 pub record Stands (s : RefT Bytes) (i : ℕ) (r : Viewer) : Type 0 where
@@ -32,9 +39,6 @@ module _ (s : RefT Bytes) where
   pub next-stands : (i : ℕ) (r t : Viewer) → Stands s i r → IsNext r t → Stands s (suc i) t
   unfolding standing
   next-stands i r t st n = record { payload = n .payload ∙ st .payload; at = n .at ∙ (λ j. nextFrom (now (st .payload j)) (st .at j)) }
-
-  pub moved-stands : (i : ℕ) (r t : Viewer) → Stands s 0 r → IsMoved r i t → Stands s i t
-  moved-stands i r t st m = record { payload = m .payload ∙ st .payload; at = m .at ∙ (λ j. movedFrom (now (st .payload j)) i (st .at j)) ∙ moved-standing (now s) i }
 
   pub line-stands : (i : ℕ) (r : Viewer) (x : RefT Bytes) → Stands s i r → IsLine (r .payload) (r .at) x → IsLine s (standing (now s) i) x
   line-stands i r x st l = subst (λ (z : RefT Bytes × ℕ). IsLine (z .0) (z .1) x) (λ j. (st .payload j, st .at j)) l

@@ -10,7 +10,7 @@ use Rattle.sieve.specs.Verdict.{verdict}
 use Rattle.swiss.specs.Swiss.{swiss}
 use Rattle.viewer.specs.declared.Viewer.{Viewer}
 use Rattle.viewer.specs.declared.Begun.{Begun}
-use Rattle.viewer.specs.View.{opened, isDone, lineFrom, nextFrom, movedFrom}
+use Rattle.viewer.specs.View.{opened, isDone, lineFrom, nextFrom}
 
 -- the reader's answer, and where the first line starts
 pub record IsBegun (p : Bytes) (r : Begun) : Type 0 where
@@ -33,12 +33,6 @@ pub record IsLine (lent : RefT Bytes) (at : ℕ) (r : RefT Bytes) : Type 0 where
 pub record IsNext (v r : Viewer) : Type 0 where
   pub payload : r .payload ≡ v .payload
   pub at : r .at ≡ nextFrom (now (v .payload)) (v .at)
-  pub answer : r .answer ≡ v .answer
-
--- the same payload and answer, so many lines on
-pub record IsMoved (v : Viewer) (moves : ℕ) (r : Viewer) : Type 0 where
-  pub payload : r .payload ≡ v .payload
-  pub at : r .at ≡ movedFrom (now (v .payload)) moves (v .at)
   pub answer : r .answer ≡ v .answer
 
 -- a viewer that was opened on a payload, and then moved on so many times

@@ -4,7 +4,7 @@ use swiss_judge::verdict;
 use text::line_at;
 ghost use mathlib.Core.Path.{_≡_};
 ghost use Rattle.viewer.specs.View.{isDone, nextFrom, standing};
-ghost use Rattle.viewer.specs.Held.{IsBegun, IsOpened, IsLine, IsNext, IsMoved};
+ghost use Rattle.viewer.specs.Held.{IsBegun, IsOpened, IsLine, IsNext};
 
 // The payload, the place where the next line starts, and what the reader answers.
 pub struct Viewer<'a> {
@@ -105,26 +105,35 @@ pub fn next<'a>(v: Viewer<'a>) -> Viewer<'a>
     }
 }
 
-// The viewer so many lines on.
-fn moved<'a>(v: Viewer<'a>, moves: usize) -> Viewer<'a>
-    ensures { λ r. ⌜ IsMoved (v .entry) moves r ⌝ }
+// Where a viewer stands that was opened on the payload and moved on so many times. Past the last line nothing changes, so no
+// more moves are made than there are lines, however many are asked for.
+fn place_after(payload: &[u8], moves: usize) -> usize
+    ensures { λ r. ⌜ r ≡ standing (now (payload .entry)) moves ⌝ }
 {
-    if moves == 0 {
-        return v;
+    let begun = begin(payload);
+    let past = payload.len() + 1;
+    let mut at = begun.at;
+    let mut left = moves;
+    while left != 0 {
+        if at == past {
+            return past;
+        }
+        at = after(payload, at);
+        left = left - 1;
     }
-    moved(next(v), moves - 1)
+    at
 }
 
 // The line at which a viewer stands that was opened on the payload and moved on so many times.
 pub fn line_after<'a>(payload: &'a [u8], moves: usize) -> &'a [u8]
     ensures { λ r. ⌜ IsLine (payload .entry) (standing (now (payload .entry)) moves) r ⌝ }
 {
-    line(moved(open(payload), moves))
+    line_from(payload, place_after(payload, moves))
 }
 
 // Whether such a viewer is done.
 pub fn done_after(payload: &[u8], moves: usize) -> bool
     ensures { λ r. ⌜ r ≡ isDone (now (payload .entry)) (standing (now (payload .entry)) moves) ⌝ }
 {
-    done(moved(open(payload), moves))
+    is_done(payload, place_after(payload, moves))
 }

@@ -31,6 +31,9 @@ add-write-after c = omega arith
 write-after-requires-2 : tie.Need-write-after-requires-2 Inv-loop μ-loop
 write-after-requires-2 c κs = tt
 
+write-after-requires-3 : tie.Need-write-after-requires-3 Inv-loop μ-loop
+write-after-requires-3 c κs = tt
+
 slice-aggregate-write-all : tie.Need-slice-aggregate-write-all Inv-loop μ-loop
 slice-aggregate-write-all c = omega arith
 
@@ -53,6 +56,7 @@ write-view-spec =
     loop-again
     add-write-after
     write-after-requires-2
+    write-after-requires-3
     slice-aggregate-write-all
     write-all-requires
     returns)
