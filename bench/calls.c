@@ -25,8 +25,8 @@ static uint32_t call(char kind)
     case 'g':
         return qrbill_glance(given.text, given.length);
     default:
-        return qrbill_write(given.text, given.length, given.places, given.numbers,
-                            (uint8_t)given.count, given.crlf != 0, destination, given.room);
+        return qrbill_write(given.text, given.length, given.places, given.numbers, given.count,
+                            given.crlf != 0, destination, given.room);
     }
 }
 

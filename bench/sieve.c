@@ -12,6 +12,7 @@
 #include <string.h>
 
 enum { MOST_BYTES = 997, FEWEST_LINES = 31, MOST_LINES = 34, LIST_NUMBERS = 2 * MOST_LINES };
+enum { MOST_TOLD = 999 }; /* of a count of lines that is refused: a packed line has three digits */
 
 /* The refusals, from 1 on. */
 enum {
@@ -568,7 +569,7 @@ static void join(const uint8_t *text, const uint16_t *places, size_t count, bool
 }
 
 uint32_t qrbill_write(const uint8_t *text, size_t length, const uint16_t *places, size_t numbers,
-                      uint8_t count, bool crlf, uint8_t *destination, size_t room)
+                      uint32_t count, bool crlf, uint8_t *destination, size_t room)
 {
     uint8_t joined[MOST_BYTES];
     struct bill bill;
@@ -576,7 +577,7 @@ uint32_t qrbill_write(const uint8_t *text, size_t length, const uint16_t *places
     if (numbers < LIST_NUMBERS)
         return refused(NO_ROOM, 0);
     if (count < FEWEST_LINES || count > MOST_LINES)
-        return refused(LINE_COUNT, count);
+        return refused(LINE_COUNT, count < MOST_TOLD ? count : MOST_TOLD);
     for (size_t i = 0; i < count; i++)
         if ((size_t)places[2 * i] + places[2 * i + 1] > length)
             return refused(OUTSIDE_TEXT, i + 1);

@@ -62,7 +62,7 @@ int main(int argc, char **argv)
     static uint8_t text[MOST_BYTES + 1], payload[MOST_BYTES];
     uint16_t list[QRBILL_NUMBERS];
     size_t end = 0;
-    uint8_t count = FEWEST_LINES;
+    uint32_t count = FEWEST_LINES;
 
     for (int i = 1; i < argc; i++)
         if (!take(argv[i])) {

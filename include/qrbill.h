@@ -5,11 +5,12 @@
    libgiro_capi.a for the girocode, by `rt staticlib giro_capi`; or both.
 
    What is lent. A payload is `length` bytes at `payload`, of any content and any length; a text, a
-   list and a destination are lent in the same way, a list as so many 16-bit numbers, aligned as
-   such. No pointer is null, not even where the length is 0.
-   What stays. The calls only read what is lent as const. The list of qrbill_places, the
-   answers of qrbill_pile and a destination are written to only where the call succeeds, and then only in front: what lies behind
-   stays, to the last byte.
+   list and a destination are lent in the same way, a list as so many numbers of its type, aligned
+   as such: 16 bits, and 32 for the places of a pile. No pointer is null, not even where the length
+   is 0.
+   What stays. The calls only read what is lent as const. The list of qrbill_places and of
+   girocode_places, the answers of qrbill_pile and a destination are written to only where the call
+   succeeds, and then only in front: what lies behind stays, to the last byte.
    Overlap. What is written to lies apart from all else that is lent to the same call. What is only
    read may overlap.
    Threads. Nothing is kept between calls, nor shared: any number of threads may call at once, also
@@ -41,8 +42,9 @@ extern "C" {
     7  a line is not empty and must be              13  lines 30 and 32 together are over 140
                                                         characters; the line is 32
 
-   Refusals 1 and 2 name line 0. Every other call packs a refusal in the same way, so an answer of
-   1000 or more is a refusal, `answer / 1000` its number and `answer % 1000` its line. Which byte
+   Refusals 1 and 2 name line 0. Every call that tells refusals packs them in this way: an answer of
+   1000 or more is a refusal, `answer / 1000` its number and `answer % 1000` its line. Three calls
+   tell none: qrbill_line, qrbill_glance and girocode_line answer with a place, or 0. Which byte
    refusal 3 is about, no call here tells: the program qrbill does, as does the library in Rattle. */
 uint32_t qrbill_read(const uint8_t *payload, size_t length);
 
@@ -78,13 +80,13 @@ uint32_t qrbill_glance(const uint8_t *payload, size_t length);
    Else the answer is a refusal, and the destination is as it was. In this order:
 
    15, line 0      the list has fewer than 68 numbers
-    5, the count   not 31 to 34 lines
+    5, the count   not 31 to 34 lines; for a count above 999 the line is 999
    14, the line    a line's part lies outside the text
     3, the line    a line holds CR or LF
                    what qrbill_read says of the bytes that would be written
    15, line 0      there is less room than bytes to write */
 uint32_t qrbill_write(const uint8_t *text, size_t length, const uint16_t *list, size_t numbers,
-                      uint8_t count, bool crlf, uint8_t *destination, size_t room);
+                      uint32_t count, bool crlf, uint8_t *destination, size_t room);
 
 /* Numbers of our own, made from their parts, with the check digits that are due:
 
@@ -122,6 +124,8 @@ uint32_t qrbill_pile(const uint8_t *buffer, size_t length, const uint32_t *place
 
 /* The Austrian girocode (EPC QR code): the same four calls for a payload that begins with BCD. It has
    7 to 12 lines and at most 331 bytes; a list has 24 numbers, start and length of each of 12 lines.
+   girocode_line takes a line of 1 to 12, and girocode_write a count of 7 to 12, at most 331 bytes and
+   a list of 24 numbers or more, where the calls for the Swiss bill take 34, 31 to 34, 997 and 68.
    The characters are those of ISO 8859-1 if the third line is 2, and otherwise those of the Swiss
    bill. Answers are packed in the same way. The refusals that differ:
 
@@ -141,7 +145,7 @@ uint32_t girocode_line(const uint8_t *payload, size_t length, uint32_t line);
 uint32_t girocode_places(const uint8_t *payload, size_t length, uint16_t *list, size_t numbers);
 
 uint32_t girocode_write(const uint8_t *text, size_t length, const uint16_t *list, size_t numbers,
-                        uint8_t count, bool crlf, uint8_t *destination, size_t room);
+                        uint32_t count, bool crlf, uint8_t *destination, size_t room);
 
 #ifdef __cplusplus
 }

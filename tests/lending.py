@@ -9,10 +9,12 @@ from layouts import SWISS
 from records import LARGEST, MOST_NUMBERS, MOST_ROOM, record_of
 from shrinking import shrunk, told_of
 
+COUNTS = (255, 256 + 31, 999, 1000, 2**16 + 31, 2**32 - 1)  # of lines: none that a bill has, as 32 bits
 HOST = kit.ROOT / 'tests' / 'host' / 'lending.c'
 
 # As in lending.c.
 MARK = b'\xAA'
+MOST_TOLD = 999  # a packed line has three digits, so a count of lines above that is told as 999
 RESULT = struct.Struct(f'<I{2 * MOST_NUMBERS}sI{MOST_ROOM}s')
 
 
@@ -31,7 +33,7 @@ def attempt(dice, payload, layout=SWISS):
     if change == 0:  # a list that is too short or too long
         return whole._replace(places=(places + [7, 7])[:dice.pick([0, 2 * most - 1, 2 * most + 1, 2 * most + 2])])
     if change == 1:
-        return whole._replace(count=dice.pick([0, 255, *range(fewest - 1, most + 2)]))
+        return whole._replace(count=dice.pick([0, *COUNTS, *range(fewest - 1, most + 2)]))
     if change == 2:
         number = dice.pick([0, 1, min(length, LARGEST), LARGEST])
         places[dice.below(2 * most)] = number
@@ -59,7 +61,7 @@ def expected_result(given, layout=SWISS):
     brk = 'CRLF' if given.crlf else 'LF'
     written = paper.write(given.text, given.places, given.count, brk, given.room)
     if isinstance(written, paper.Refused):
-        write_number, data = 1000 * written.number + written.line, b''
+        write_number, data = 1000 * written.number + min(written.line, MOST_TOLD), b''
     else:
         write_number, data = len(written.data), written.data
     filled = struct.pack(f'<{len(places)}H', *places)

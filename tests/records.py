@@ -8,7 +8,7 @@ from framing import framed
 from reference.qrbill import LIST_NUMBERS
 
 MOST_NUMBERS, MOST_ROOM = 100, 1200  # as in record.h
-MOST_COUNT, LARGEST = 2**8 - 1, 2**16 - 1  # of lines to write; of the numbers in a list
+LARGEST = 2**16 - 1  # of the numbers in a list
 
 
 class Record(NamedTuple):
@@ -35,6 +35,6 @@ def record_of(payload, numbers=LIST_NUMBERS):
     for line in lines_of(payload):
         places += [min(start, LARGEST), min(len(line), LARGEST)]
         start += len(line) + len(brk)
-    count = min(len(places) // 2, MOST_COUNT)
+    count = len(places) // 2
     places = (places + numbers * [0])[:numbers]
     return Record(payload, places, count, brk == b'\r\n', MOST_ROOM)

@@ -38,7 +38,7 @@ struct question {
     size_t list_numbers;  /* in the list to fill */
     size_t front;         /* bytes of the writer's text in front of the payload */
     size_t numbers, room; /* in the writer's list, and in its destination */
-    uint8_t count;        /* of lines to write */
+    uint32_t count;       /* of lines to write */
     bool crlf;            /* the break to write */
     uint16_t places[MOST_NUMBERS];
 };
@@ -121,7 +121,7 @@ static void lay_out(void)
     const struct payload *payload = &asked.payload;
     struct part lines[MOST_COUNT];
     const size_t count = cut(payload, lines, MOST_COUNT), stray = below(2) ? LARGEST : 0;
-    asked.count = (uint8_t)(count < MOST_COUNT ? count : MOST_COUNT);
+    asked.count = (uint32_t)(count < MOST_COUNT ? count : MOST_COUNT);
     asked.crlf = has_returns(payload);
     asked.front = below(4) ? 0 : below(2) ? below(100) : LARGEST - payload->length;
     asked.numbers = QRBILL_NUMBERS + below(3);
@@ -153,13 +153,15 @@ static void copy_place(void)
 /* Half the time one thing changes that the writer is lent or told. */
 static void change(void)
 {
-    static const uint8_t counts[] = {0, 30, 31, 32, 33, 34, 35, 255};
+    static const uint32_t counts[] = {
+        0, 30, 31, 32, 33, 34, 35, 255, 256, 287, 999, 1000, 65567, 4294967295,
+    };
     switch (below(10)) {
     case 0:
         asked.numbers = QRBILL_NUMBERS - 1 - below(2);
         break;
     case 1:
-        asked.count = counts[below(sizeof counts)];
+        asked.count = counts[below(sizeof counts / sizeof *counts)];
         break;
     case 2:
         change_place();

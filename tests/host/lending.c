@@ -2,9 +2,9 @@
    it: a struct result.
 
    qrbill_places takes the text as a payload and fills a list; qrbill_write joins the lines that the
-   record's list finds in the text. Compiled for the girocode it makes the calls of that. What is lent is laid against a wall each, and full of marks
-   before the call, as is the room in front of it. The host ends with status 1 where a call changed
-   what it may only read. */
+   record's list finds in the text. Compiled for the girocode it makes the calls of that. What is
+   lent is laid against a wall each, and full of marks before the call, as is the room in front of
+   it. The host ends with status 1 where a call changed what it may only read. */
 
 #include <string.h>
 
@@ -45,8 +45,8 @@ static bool answer(const struct record *given, struct result *result)
     result->read = layout_places(text, given->length, (uint16_t *)(void *)(list_end - given_bytes),
                                  given->numbers);
     result->written = layout_write(text, given->length, places, given->numbers,
-                                   (uint8_t)given->count, given->crlf != 0,
-                                   destination_end - given->room, given->room);
+                                   given->count, given->crlf != 0, destination_end - given->room,
+                                   given->room);
     memcpy(result->places, lists, sizeof result->places);
     memcpy(result->destination, destinations, MOST_ROOM);
     return memcmp(text, given->text, given->length) == 0 &&

@@ -12,6 +12,7 @@ use packing::packed_line;
 use packing::packed_place;
 use packing::packed_refusal;
 use packing::packed_verdict;
+use packing::told_count;
 use pile::Piled;
 use pile::pile;
 use reader::read;
@@ -72,7 +73,7 @@ pub extern "C" fn qrbill_glance(payload: &[u8]) -> u32
 pub extern "C" fn qrbill_write(
     text: &[u8],
     list: &[u16],
-    count: u8,
+    count: u32,
     crlf: bool,
     dest: &mut [u8],
 ) -> u32
@@ -80,7 +81,7 @@ pub extern "C" fn qrbill_write(
         ⌜ IsPackedWritten swiss (now (text .entry)) (now (list .entry)) count (breakFor crlf) (now (dest .entry)) r
         (now (dest .exit)) ⌝ }
 {
-    packed_laying(write(text, list, count as usize, break_for(crlf), dest))
+    packed_laying(write(text, list, told_count(count), break_for(crlf), dest))
 }
 
 // The length of a QR reference made of 26 digits, which lies in the destination's front; else 10000 or 15000, and the

@@ -10,6 +10,7 @@ use packing::packed_answer;
 use packing::packed_laying;
 use packing::packed_line;
 use packing::packed_verdict;
+use packing::told_count;
 ghost use mathlib.Core.Path.{_≡_};
 ghost use Rattle.sieve.specs.Verdict.{verdict};
 ghost use Rattle.girocode.specs.Girocode.{girocode};
@@ -49,7 +50,7 @@ pub extern "C" fn girocode_places(payload: &[u8], list: &mut [u16]) -> u32
 pub extern "C" fn girocode_write(
     text: &[u8],
     list: &[u16],
-    count: u8,
+    count: u32,
     crlf: bool,
     dest: &mut [u8],
 ) -> u32
@@ -57,5 +58,5 @@ pub extern "C" fn girocode_write(
         ⌜ IsPackedWritten girocode (now (text .entry)) (now (list .entry)) count (breakFor crlf) (now (dest .entry)) r
         (now (dest .exit)) ⌝ }
 {
-    packed_laying(write(text, list, count as usize, break_for(crlf), dest))
+    packed_laying(write(text, list, told_count(count), break_for(crlf), dest))
 }

@@ -9,6 +9,9 @@ one-packed-refusal κs a x y v w h k = (h ∙ sym k, refl)
 pub one-packed-place : OneAnswer fn.packed_place.ended fn.packed_place.Reads.Learnt
 one-packed-place κs a x y v w h k = (h ∙ sym k, refl)
 
+pub one-told-count : OneAnswer fn.told_count.ended fn.told_count.Reads.Learnt
+one-told-count κs a x y v w h k = (h ∙ sym k, refl)
+
 pub one-break-for : OneAnswer fn.break_for.ended fn.break_for.Reads.Learnt
 one-break-for κs a x y v w h k = (h ∙ sym k, refl)
 

@@ -12,7 +12,7 @@ use Rattle.sieve.specs.Reading.{readAnswer}
 use Rattle.sieve.specs.Rules.{Layout}
 use Rattle.sieve.specs.Verdict.{Verdict, accepted, refused}
 use Rattle.sieve.specs.Writing.{writeAnswer}
-use Rattle.packing.specs.Packing.{packedPlace, packedVerdict, packedLaying}
+use Rattle.packing.specs.Packing.{packedPlace, packedVerdict, packedLaying, toldCount}
 
 -- the place of line i in a list of places
 abbrev pub listedPlace : List ℕ → ℕ → ℕ
@@ -37,7 +37,7 @@ pub record IsPackedRead (L : Layout) (p : Bytes) (list : List ℕ) (r : ℕ) (af
   pub number : r ≡ packedVerdict (readAnswer L p list .answer)
   pub lent : after ≡ readAnswer L p list .lent
 
--- of a text, a list of places, a count, a break and a destination, the number r and the destination afterwards
+-- of a text, a list of places, a count, a break and a destination, the number r and the destination afterwards; no layout that packs has 999 lines, so a greater count is refused as 999 is
 pub record IsPackedWritten (L : Layout) (text : Bytes) (list : List ℕ) (count : ℕ) (k : Break) (dest : Bytes) (r : ℕ) (after : Bytes) : Type 0 where
-  pub number : r ≡ packedLaying (writeAnswer L text list count k dest .answer)
-  pub lent : after ≡ writeAnswer L text list count k dest .lent
+  pub number : r ≡ packedLaying (writeAnswer L text list (toldCount count) k dest .answer)
+  pub lent : after ≡ writeAnswer L text list (toldCount count) k dest .lent

@@ -1,5 +1,5 @@
 -- Answers as one number, for C: how every call packs a refusal, a place, a count of lines. Assumes nothing.
-use Prim.Native.Nat.{ℕ, _+_, _*_, _<_}
+use Prim.Native.Nat.{ℕ, _+_, _*_, _<_, min}
 use mathlib.Core.Bool.{Bool, true, false}
 use Rattle.sieve.specs.declared.Break.{Break}
 use Rattle.sieve.specs.declared.Break.the-variants.{Lf, CrLf}
@@ -50,6 +50,10 @@ PacksLaying (not-laid r) = r .line < shift
 abbrev pub packedLaying : Laying → ℕ
 packedLaying (laid n) = n
 packedLaying (not-laid r) = packedRefusal r
+
+-- a count of lines as it is told: a packed line has three digits, so 999 where it is more
+abbrev pub toldCount : ℕ → ℕ
+toldCount n = min n 999
 
 -- the kind of break that a flag asks for
 abbrev pub breakFor : Bool → Break

@@ -10,11 +10,14 @@ ghost use Prim.Native.Nat.{_≤_, _<_};
 ghost use lib.ListN.{length};
 ghost use Rattle.sieve.specs.Paper.{paperFault, paper, paperWritten};
 ghost use Rattle.packing.specs.Packing.{shift, packedRefusal, packedPlace, mark, packedCount, breakFor};
-ghost use Rattle.packing.specs.Packing.{Packs, packed, packedVerdict, PacksLaying, packedLaying};
+ghost use Rattle.packing.specs.Packing.{Packs, packed, packedVerdict, PacksLaying, packedLaying, toldCount};
 ghost use Rattle.packing.specs.Calls.{listedPlace, Lists, linePlace};
 
 // What the number of a refusal, or the start of a place, is multiplied by.
 const SHIFT: u32 = 1000;
+
+// The most that a packed line can be: it has three digits.
+const MOST_TOLD: u32 = 999;
 
 // 1000 times the refusal plus the line.
 pub fn packed_refusal(fault: Fault) -> u32
@@ -56,6 +59,16 @@ fn packed_count(lines: usize, brk: Break) -> u32
     ensures { λ r. ⌜ r ≡ packedCount lines brk ⌝ }
 {
     lines as u32 + mark(brk) as u32
+}
+
+// A count of lines, which may be any number in C, as a refusal tells it: 999 where it is more. No bill has so many.
+pub fn told_count(count: u32) -> usize
+    ensures { λ r. ⌜ r ≡ toldCount count ⌝ }
+{
+    if MOST_TOLD < count {
+        return MOST_TOLD as usize;
+    }
+    count as usize
 }
 
 // The kind of break that a flag asks for.

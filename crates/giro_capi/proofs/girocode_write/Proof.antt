@@ -5,6 +5,9 @@ use Rattle.giro_capi.proofs.Packs.{packs}
 use Rattle.giro_capi.proofs.girocode_write.Statement.{statement}
 use Rattle.giro_capi.proofs.girocode_write.Tie as tie
 
+told-count-requires : tie.Need-told-count-requires
+told-count-requires c κs = search needs
+
 break-for-requires : tie.Need-break-for-requires
 break-for-requires c κs = search needs
 
@@ -18,8 +21,8 @@ same-length : tie.Need-same-length
 same-length c = search needs
 
 returns : tie.Need-returns
-returns c = rw (← c .before .before .before .before .before .break-for .ensures) (written-packed (c .before .before .before .write .ensures) (c .packed-laying .ensures))
+returns c = rw (← c .before .before .before .before .before .break-for .ensures) (written-packed (c .before .before .before .write .ensures) (c .before .before .before .before .before .before .told-count .ensures) (c .packed-laying .ensures))
 
 pub girocode-write-spec : {M : Type 1} → statement M
 girocode-write-spec =
-    tie.close (tie.spec break-for-requires write-requires packed-laying-requires same-length returns)
+    tie.close (tie.spec told-count-requires break-for-requires write-requires packed-laying-requires same-length returns)
