@@ -99,7 +99,7 @@ pub written-then-read : {text dest end : Bytes} {list other after : List ℕ} {c
 unfolding girocode
 written-then-read = together.written-then-read girocode (suits .lawful) (suits .two)
 
--- a refusal under 3 points at a byte of the joined lines: at a CR or LF that the line given holds; or, where no line holds any, at what the reader finds in them
+-- a refusal under 3 points at a byte of the joined lines: at the first CR or LF that a line holds, which is the line given; or, where no line holds any, at what the reader finds in them
 pub points-at-the-byte : (text : Bytes) (list : List ℕ) (count : ℕ) (k : Break) (dest after : Bytes) (i at : ℕ) → IsWritten girocode text list count k dest (Refused (BadCharacter i at)) after
     → let ls = handed text list count in (at < length (joined k ls)) × (HoldsBreak k ls i at ⊎ ((strayBreak 1 (placed 0 k ls) ≡ none) × BeginsNeither (chosen (linesOf (cut (joined k ls)))) (joined k ls) i at))
 unfolding girocode

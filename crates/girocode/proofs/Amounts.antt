@@ -22,7 +22,7 @@ use Rattle.girocode.specs.Shortest.{behind, shortest}
 
 -- whole euros
 
-abbrev euros : ℕ → Bytes
+abbrev pub euros : ℕ → Bytes
 euros = decimalIn 9
 
 plain-digits : (n : ℕ) → digits 9 n [] ≡ euros n
@@ -53,7 +53,7 @@ euros-few w h =
     omega (arith, number-below w 0 0 (x .digital) (lit≤ tt))
 
 module _ (n : ℕ) (few : n < 10 ^ 9) where
-  euros-written : Written 9 n [] (euros n)
+  pub euros-written : Written 9 n [] (euros n)
   euros-written = rw (plain-digits n) at (digits-written 8 n [] few)
 
   euros-whole : whole (euros n) ≡ true
@@ -62,16 +62,16 @@ module _ (n : ℕ) (few : n < 10 ^ 9) where
       let lead : unled (euros n) ≡ true = rw (plain-digits n) at (written-unled n few) in
       rw (le-leb 1 (length (euros n)) (x .least), le-leb (length (euros n)) 9 (x .most), x .digital refl, lead)
 
-  euros-read : number 0 (euros n) ≡ n
+  pub euros-read : number 0 (euros n) ≡ n
   unfolding number
   euros-read = euros-written .value
 
 -- what stands behind them
 
-point-and-one : (n : ℕ) → n ≢ 0 → n % 10 ≡ 0 → behind n ≡ 46 ∷ digitByte (n / 10) ∷ []
+pub point-and-one : (n : ℕ) → n ≢ 0 → n % 10 ≡ 0 → behind n ≡ 46 ∷ digitByte (n / 10) ∷ []
 point-and-one n some e = rw (ne-eqb n 0 some, e)
 
-point-and-two : (n : ℕ) → n % 10 ≢ 0 → behind n ≡ 46 ∷ digitByte (n / 10) ∷ digitByte (n % 10) ∷ []
+pub point-and-two : (n : ℕ) → n % 10 ≢ 0 → behind n ≡ 46 ∷ digitByte (n / 10) ∷ digitByte (n % 10) ∷ []
 point-and-two n other = rw (ne-eqb n 0 (λ e. other (omega arith)), ne-eqb (n % 10) 0 other)
 
 -- cents that stand behind the point as f

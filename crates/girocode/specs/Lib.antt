@@ -6,3 +6,4 @@ pub mod Girocode
 pub mod Order
 pub mod Base
 pub mod Table
+pub mod SecondTable

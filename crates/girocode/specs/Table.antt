@@ -1,44 +1,18 @@
 -- Cases of the girocode, as one table under one claim: 002's examples, and each refusal beside what just passes. Assumes nothing.
-use Prim.Native.Nat.{ℕ}
 use mathlib.Core.List.{List, [], _∷_, _++_, flatten}
 use lib.Dec.{T}
-use lib.ListN.{take, drop, length}
+use lib.ListN.{take, drop}
 use Rattle.sieve.specs.declared.Break.the-variants.{Lf, CrLf}
 use Rattle.sieve.specs.Bytes.{Bytes, firstSuch}
 use Rattle.sieve.specs.Lines.{breakBytes, joined, cut, billOf}
 use Rattle.sieve.specs.Characters.{breakWidth, passes, walk, badPlace, characters, lineFeeds}
 use Rattle.sieve.specs.Verdict.{under, underAt, accepted, refused, findings, first, verdict}
-use Rattle.sieve.specs.Cases.{lines, put, putBytes, times, Case, case, right}
+use Rattle.sieve.specs.Cases.{lines, put, putBytes, times, umlaut, Case, case, right}
 use Rattle.sieve.specs.Latin.{latin}
 use Rattle.sieve.specs.Mod97.{number, remainder97}
 use Rattle.sieve.specs.Iso8859.{iso8859}
 use Rattle.girocode.specs.Girocode.{rules, girocode}
-use Rattle.girocode.specs.Base.{G}
-
--- lines that are accepted with LF, and lines that are refused
-abbrev good : List Bytes → Case
-good ls = case Lf ls (accepted (length ls) Lf)
-
-abbrev bad : ℕ → ℕ → List Bytes → Case
-bad r i ls = case Lf ls (refused (under r i))
-
--- the byte after the first letter of the name is bad
-abbrev badByte : List Bytes → Case
-badByte ls = case Lf ls (refused (underAt 3 6 24))
-
--- ü in UTF-8 and in ISO 8859-1, and the no-break space of ISO 8859-1
-abbrev umlaut : Bytes
-umlaut = 0xC3 ∷ 0xBC ∷ []
-
-abbrev umlautIso : Bytes
-umlautIso = 0xFC ∷ []
-
-abbrev spaceIso : Bytes
-spaceIso = 0xA0 ∷ []
-
--- in ISO 8859-1
-abbrev iso : List Bytes → List Bytes
-iso = put 3 "2"
+use Rattle.girocode.specs.Base.{G, good, bad, badByte, umlautIso, spaceIso, iso}
 
 -- the name as the letter A and these bytes
 abbrev named : Bytes → List Bytes

@@ -5,14 +5,12 @@ use native.Mathlib.Omega.{arith}
 use mathlib.Core.Bool.{true}
 use mathlib.Core.List.{List}
 use mathlib.Core.Path.{_≡_}
-use lib.Bits.{bitAnd}
-use lib.Count.{trailingZeros}
 use lib.ListN.{length, getD, take, drop, length-drop}
 use lib.Seq.{length-take-le, getD-take, getD-drop}
 use Rattle.sieve.specs.declared.Charset.{Charset}
 use Rattle.sieve.specs.Bytes.{Bytes}
 use Rattle.sieve.specs.Latin.{inOne}
-use Rattle.marks.specs.Marks.{Marks}
+use Rattle.marks.specs.Marks.{Marks, firstMarked, withoutFirst}
 use Rattle.marks.proofs.Left.{Left, all-left, Found, found, none-left}
 use Rattle.lines.specs.declared.Passed.{Passed}
 use Rattle.lines.specs.Here.{Here, GoneOn}
@@ -61,7 +59,7 @@ module _ (s : Bytes) (l : List ℕ) (from : ℕ) (p : Passed) (l′ : List ℕ) 
       and-on (t .going) (record { on = λ set k. rw assoc at (plain-passed set s l′ (from + t .steps) p′ n fits here k); forward = omega arith })
 
   -- on to the first mark, which is at byte n of the eight
-  module _ (some : 0 < left) (n : ℕ) (at : n ≡ trailingZeros 64 left / 8) where
+  module _ (some : 0 < left) (n : ℕ) (at : n ≡ firstMarked 8 left) where
     first : Found left (t .steps) (take 8 (drop from s))
     first = found left (t .steps) _ (omega (arith, size)) (t .marks) some
 
@@ -72,7 +70,7 @@ module _ (s : Bytes) (l : List ℕ) (from : ℕ) (p : Passed) (l′ : List ℕ) 
     to-mark = rw (at, first .at) (passed-on (first .steps) (omega (arith, first .within, size)) (first .plain))
 
     -- and over one byte there
-    pub over-mark : (l″ : List ℕ) (p″ : Passed) → Going s l′ (from + n) p′ l″ (from + n + 1) p″ → Turn s l from p l″ p″ (bitAnd left (left - 1))
+    pub over-mark : (l″ : List ℕ) (p″ : Passed) → Going s l′ (from + n) p′ l″ (from + n + 1) p″ → Turn s l from p l″ p″ (withoutFirst left)
     over-mark l″ p″ g =
         let place : from + n + 1 ≡ from + (t .steps + first .steps + 1) = omega (arith, first .at) in
         record { steps = t .steps + first .steps + 1; going = rw place at (and-on to-mark g); marks = first .later; few = omega (arith, first .within, size) }

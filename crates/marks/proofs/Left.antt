@@ -6,14 +6,14 @@ use mathlib.Core.Bool.{true}
 use mathlib.Core.List.{_∷_}
 use mathlib.Core.Logic.{_≢_}
 use mathlib.Core.Path.{_≡_, refl, sym, ap, ap₂, _∙_}
-use lib.Bits.{bitAnd, and-block, and-step, and-self, shifted-half, shifted-even}
 use lib.Count.{trailingZeros}
 use lib.ListN.{length, getD, drop, length-drop}
-use lib.Pow.{pow-pos, pow-add, pow-sub-lt}
+use lib.Pow.{pow-pos, pow-add}
 use lib.Seq.{drop-drop, getD-drop}
 use Rattle.sieve.specs.Bytes.{Bytes}
 use Rattle.sieve.specs.Latin.{inOne}
-use Rattle.marks.specs.Marks.{Marks, no-byte, unmarked, marked}
+use Rattle.marks.specs.Marks.{firstMarked, withoutFirst, Marks, no-byte, unmarked, marked}
+use Rattle.marks.proofs.Lowest.{lowest, without, first-byte}
 
 -- the first mark of some bytes: those before it are characters by themselves
 record First (m : ℕ) (t : Bytes) : Type 0 where
@@ -52,26 +52,6 @@ none (marked rest) e i h = absurd (omega arith)
 none (unmarked one rest) e zero h = one
 none (unmarked one rest) e (suc i) h = none rest (omega arith) i (le-of-suc-le-suc h)
 
--- the lowest set bit of an odd number that is shifted
-lowest : (d m i : ℕ) → m % 2 ≡ 1 → i < d → trailingZeros d (m * 2 ^ i) ≡ i
-unfolding trailingZeros
-lowest zero m i o h = absurd (omega arith)
-lowest (suc d) m zero o h = rw (mul-one, o)
-lowest (suc d) m (suc i) o h = rw (shifted-even, shifted-half) (ap suc (lowest d m i o (le-of-suc-le-suc h)))
-
--- without it
-cleared : (x i : ℕ) → bitAnd ((x * 2 + 1) * 2 ^ i) ((x * 2 + 1) * 2 ^ i - 1) ≡ x * 2 * 2 ^ i
-cleared x i =
-    let p = pow-pos i in
-    let left : (x * 2 + 1) * 2 ^ i ≡ (x * 2 + 1) * 2 ^ i + 0 = omega arith in
-    let right : (x * 2 + 1) * 2 ^ i - 1 ≡ x * 2 * 2 ^ i + (2 ^ i - 1) = omega arith in
-    let odd : (x * 2 + 1) / 2 ≡ x = omega arith in
-    let even : x * 2 / 2 ≡ x = omega arith in
-    let one : (x * 2 + 1) % 2 ≡ 1 = omega arith in
-    let no : x * 2 % 2 ≡ 0 = omega arith in
-    let above : bitAnd (x * 2 + 1) (x * 2) ≡ x * 2 = and-step (x * 2 + 1) (x * 2) ∙ rw (odd, even, one, no, and-self x) (add-zero _) in
-    ap₂ bitAnd left right ∙ and-block i (x * 2 + 1) (x * 2) 0 (2 ^ i - 1) p (pow-sub-lt i (omega arith)) ∙ rw above (add-zero _)
-
 -- a shifted number is 0 only if the number is
 no-mark : (m i : ℕ) → m * 2 ^ i ≡ 0 → m ≡ 0
 no-mark m i e = omega (arith, mul-le-mul-right m (pow-pos i), mul-comm (2 ^ i) m)
@@ -89,9 +69,9 @@ all-left m t h = record { marks = m; is = sym (mul-one m); marked = h }
 pub record Found (left from : ℕ) (t : Bytes) : Type 0 where
   pub steps : ℕ
   pub within : from + steps < length t
-  pub at : trailingZeros 64 left / 8 ≡ from + steps
+  pub at : firstMarked 8 left ≡ from + steps
   pub plain : (i : ℕ) → i < steps → inOne (getD t (from + i) 0) ≡ true
-  pub later : Left (bitAnd left (left - 1)) (from + steps + 1) t
+  pub later : Left (withoutFirst left) (from + steps + 1) t
 
 pub found : (left from : ℕ) (t : Bytes) → length t ≤ 8 → Left left from t → 0 < left → Found left from t
 found left from t few l h =
@@ -107,11 +87,11 @@ found left from t few l h =
     record {
       steps = k;
       within = omega (arith, f .within);
-      at = ap (λ (n : ℕ). trailingZeros 64 n / 8) is ∙ ap (λ (n : ℕ). n / 8) zeros ∙ omega arith;
+      at = sym (first-byte 8 left) ∙ ap (λ (n : ℕ). trailingZeros 64 n / 8) is ∙ ap (λ (n : ℕ). n / 8) zeros ∙ omega arith;
       plain = λ i p. rw getD-drop at (f .plain i p);
       later = record {
         marks = f .later;
-        is = ap (λ (n : ℕ). bitAnd n (n - 1)) is ∙ cleared (f .later) (8 * (from + k) + 7) ∙ sym (ap (λ (n : ℕ). f .later * 2 ^ n) next ∙ ap (λ (n : ℕ). f .later * n) (pow-add 2 1 (8 * (from + k) + 7)) ∙ sym (mul-assoc (f .later) 2 (2 ^ (8 * (from + k) + 7))));
+        is = ap withoutFirst is ∙ without (f .later) (8 * (from + k) + 7) (omega (arith, f .within)) ∙ sym (ap (λ (n : ℕ). f .later * 2 ^ n) next ∙ ap (λ (n : ℕ). f .later * n) (pow-add 2 1 (8 * (from + k) + 7)) ∙ sym (mul-assoc (f .later) 2 (2 ^ (8 * (from + k) + 7))));
         marked = rw (behind, ← drop-drop (suc k) from t) (f .rest);
       };
     }

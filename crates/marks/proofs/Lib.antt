@@ -1,4 +1,5 @@
 pub mod Left
+pub mod Lowest
 pub mod Marked
 pub mod OneAnswer
 pub mod Words

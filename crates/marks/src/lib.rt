@@ -1,12 +1,10 @@
 // Eight bytes at once: as one number, and the marks of those that are no character by themselves.
 use std::num::wrapping_add_u64;
-ghost use Prim.Native.Nat.{_+_, _-_, _/_, _≤_, _<_};
+ghost use Prim.Native.Nat.{_+_, _≤_, _<_};
 ghost use mathlib.Core.Path.{_≡_};
-ghost use lib.Bits.{bitAnd};
-ghost use lib.Count.{trailingZeros};
 ghost use lib.ListN.{length, take, drop};
 ghost use Rattle.marks.specs.Words.{word};
-ghost use Rattle.marks.specs.Marks.{marksOf, Marks};
+ghost use Rattle.marks.specs.Marks.{marksOf, firstMarked, withoutFirst, Marks};
 
 // Added to eight bytes, it takes 20 (a space) off each; a byte that is less takes one more off the next.
 const LESS_SPACES: u64 = 0xDFDFDFDFDFDFDFE0;
@@ -59,15 +57,15 @@ pub fn marks_at(s: &[u8], at: usize) -> u64
 
 // Which byte is the first that is marked, counted from 0; 8 where none is.
 pub fn first_marked(marks: u64) -> usize
-    ensures { λ r. ⌜ r ≡ trailingZeros 64 marks / 8 ⌝ }
+    ensures { λ r. ⌜ r ≡ firstMarked 8 marks ⌝ }
 {
     (u64::trailing_zeros(marks) / 8) as usize
 }
 
-// The marks without the first.
+// The marks without the first, which is the lowest of its bits.
 pub fn later_marks(marks: u64) -> u64
     requires { ⌜ 0 < marks ⌝ }
-    ensures { λ r. ⌜ r ≡ bitAnd marks (marks - 1) ⌝ }
+    ensures { λ r. ⌜ r ≡ withoutFirst marks ⌝ }
 {
     marks & (marks - 1)
 }

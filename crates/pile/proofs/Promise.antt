@@ -48,7 +48,7 @@ module _ {buffer : Bytes} {places : List ℕ} {count : ℕ} {answers after : Lis
       rw (laid, drop-at (entries buffer places count) (drop (length (entries buffer places count)) answers) (2 * count) size, size)
 
   -- each bill's entry is that of its own verdict
-  own-entry : (i : ℕ) → i < count → take 2 (drop (2 * i) after) ≡ entry (verdict swiss (lineAt buffer places i))
+  pub own-entry : (i : ℕ) → i < count → take 2 (drop (2 * i) after) ≡ entry (verdict swiss (lineAt buffer places i))
   own-entry i k =
       let E = entries buffer places count in
       let v = verdict swiss (lineAt buffer places i) in

@@ -1,11 +1,11 @@
 -- A number written in decimal digits is read as itself, and digits with no zero in front are what their number is written as. Assumes nothing.
 use Prim.Native.Nat.{ℕ, zero, suc, _+_, _-_, _*_, _/_, _%_, _^_, _≤_, _<_}
 use native.Mathlib.Omega.{arith}
-use mathlib.Core.Bool.{Bool, true, false, _||_, not, and-eq-true-iff, or-true}
+use mathlib.Core.Bool.{Bool, true, false, cond, _||_, not, and-eq-true-iff, or-true}
 use mathlib.Core.List.{[], _∷_, _++_, append-nil, append-assoc}
 use mathlib.Core.Path.{_≡_, refl, _∙_}
 use lib.Dec.{eqb, ltb, lit≤}
-use lib.ListN.{length, getD}
+use lib.ListN.{length, getD, length-append}
 use borrow.Author.Tests.{ltb-true, ltb-false, eqb-false, not-true, lt-ltb, le-ltb, le-leb, ne-eqb}
 use Rattle.sieve.specs.Bytes.{Bytes, every}
 use Rattle.sieve.specs.Decimal.{decimalIn}
@@ -131,6 +131,17 @@ digits-written (suc k) n s h = go (ltb n 10) refl (digits-written k (n / 10) ((4
     go : (b : Bool) → ltb n 10 ≡ b → Written (suc k) (n / 10) ((48 + n % 10) ∷ s) (digits (suc k) (n / 10) ((48 + n % 10) ∷ s)) → Written (suc (suc k)) n s (digits (suc (suc k)) n s)
     go true e x = rw (few (suc k) n s (ltb-true n 10 e)) (one-digit (suc k) n s (ltb-true n 10 e))
     go false e x = rw (many (suc k) n s (ltb-false n 10 e)) (more-digits (suc k) n s _ (ltb-false n 10 e) x)
+
+-- in no more digits than the power of ten has that it is below
+pub no-more-digits : (k j n : ℕ) → n < 10 ^ suc j → length (decimalIn k n) ≤ suc j
+unfolding decimalIn
+no-more-digits zero j n h = omega arith
+no-more-digits (suc k) zero n h = rw (lt-ltb n 10 h) (lit≤ tt)
+no-more-digits (suc k) (suc j) n h = go (ltb n 10) (no-more-digits k j (n / 10) (omega arith))
+  where
+    go : (b : Bool) → length (decimalIn k (n / 10)) ≤ suc j → length (cond b ((48 + n) ∷ []) (decimalIn k (n / 10) ++ ((48 + n % 10) ∷ []))) ≤ suc (suc j)
+    go true e = omega arith
+    go false e = omega (arith, length-append (decimalIn k (n / 10)) ((48 + n % 10) ∷ []))
 
 -- and no zero stands in front
 pub written-unled : (n : ℕ) → n < 10 ^ 9 → unled (digits 9 n []) ≡ true

@@ -1,4 +1,6 @@
 pub mod Bounds
+pub mod EachPlace
+pub mod Alphabets
 pub mod Folds
 pub mod Decimals
 pub mod Pairs
@@ -19,6 +21,7 @@ pub mod Accepts
 pub mod Earliest
 pub mod Placing
 pub mod DemandThree
+pub mod LazyVerdicts
 pub mod Numbers
 pub mod PaperLosesNothing
 pub mod ReaderPromises

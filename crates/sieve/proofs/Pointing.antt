@@ -1,9 +1,9 @@
 -- A refusal under 3 points at a byte: of a payload at the first place where neither a character nor a break begins; of lines to be written also at a CR or LF that one of them holds. Assumes nothing.
-use Prim.Native.Nat.{ℕ, zero, suc, _+_, _≤_, _<_}
-use native.Mathlib.Nat.{suc-ne-zero}
+use Prim.Native.Nat.{ℕ, zero, suc, _+_, _-_, _≤_, _<_}
+use native.Mathlib.Nat.{suc-ne-zero, zero-add}
 use native.Mathlib.Omega.{arith}
 use mathlib.Core.Bool.{Bool, true, not}
-use mathlib.Core.List.{List, [], _∷_, _++_, append-assoc}
+use mathlib.Core.List.{List, [], _∷_, _++_, append-assoc, List·Memᴰ·not-nil}
 use mathlib.Core.Logic.{_≢_, _⊎_, inl, inr}
 use mathlib.Core.Option.{Option, some, none, Option·map, Option·none-ne-some, Option·some-injective}
 use mathlib.Core.Path.{_≡_, refl, sym, ap, subst, _∙_}
@@ -18,12 +18,15 @@ use Rattle.sieve.specs.Rules.{Layout}
 use Rattle.sieve.specs.Verdict.{Refusal, under, underAt, found, refused, findings, first, verdict}
 use Rattle.sieve.specs.Breaks.{Passed, Breaks, no-bytes, too-many-bytes, bad-character, mixed-breaks, too-few-lines, too-many-lines, a-line-rule}
 use Rattle.sieve.specs.Paper.{not-laid}
+use Rattle.sieve.specs.Lawful.{Clean}
 use Rattle.sieve.specs.Places.{placed, listSize}
 use Rattle.sieve.specs.Pointing.{BeginsNeither, beforeBreaks, HoldsBreak}
 use Rattle.sieve.specs.Writing.{outside, spans, handed, strayBreak, writeFindings, laidOnto, writeAnswer}
 use Rattle.sieve.proofs.Earliest.{refused-earliest}
-use Rattle.sieve.proofs.Findings.{found-some, first-at, such-at, verdict-is}
-use Rattle.sieve.proofs.Walking.{some-bytes}
+use Rattle.sieve.proofs.Findings.{found-some, first-at, such-at, such-none, verdict-is}
+use Rattle.sieve.proofs.Cutting.{Each}
+use Rattle.sieve.proofs.Strays.{clean-bytes}
+use Rattle.sieve.proofs.Walking.{some-bytes, each}
 use Rattle.sieve.proofs.Widths.{passes-character, passes-other}
 
 -- the reader's
@@ -72,6 +75,9 @@ at-end [] v x n h = rw (← h)
 at-end (y ∷ u) v x zero h = absurd (suc-ne-zero _ h)
 at-end (y ∷ u) v x (suc n) h = at-end u v x n (omega (arith, h))
 
+front-of : (j : ℕ) (s u v : Bytes) → s ≡ u ++ v → j ≡ length u → take j s ≡ u
+front-of j s u v e h = rw (e, h) (take-at u v (length u) refl)
+
 -- a stray break in lines that come behind `front`, the first of them being line i
 record Holds (k : Break) (front : Bytes) (ls : List Bytes) (i : ℕ) (r : Refusal) : Type 0 where
   at : ℕ
@@ -84,6 +90,8 @@ record Holds (k : Break) (front : Bytes) (ls : List Bytes) (i : ℕ) (r : Refusa
   lines : ls ≡ before ++ (line ∷ after)
   from : length front + length (beforeBreaks k before) ≤ at
   to : at < length front + length (beforeBreaks k before) + length line
+  first-line : Each Clean before
+  first-byte : Clean (take (at - (length front + length (beforeBreaks k before))) line)
 
 held-here : (k : Break) (l : Bytes) (ls : List Bytes) (front : Bytes) (i n at : ℕ) → length front ≡ n → firstSuch ofBreak n l ≡ some at → Holds k front (l ∷ ls) i (underAt 3 i at)
 held-here k l ls front i n at size e =
@@ -91,6 +99,8 @@ held-here k l ls front i n at size e =
     let rest = afterBreaks k ls in
     let split : front ++ (l ++ rest) ≡ (front ++ s .before) ++ (s .such ∷ (s .after ++ rest)) = ap (λ (t : Bytes). front ++ (t ++ rest)) (s .whole) ∙ simp append-assoc in
     let deep : length (front ++ s .before) ≡ at = omega (arith, size, s .place, length-append front (s .before)) in
+    let steps : at - (length front + 0) ≡ length (s .before) = omega (arith, size, s .place) in
+    let own : take (at - (length front + 0)) l ≡ s .before = front-of _ l (s .before) (s .such ∷ s .after) (s .whole) steps in
     let short : at < n + length l = omega (arith, s .place, ap length (s .whole), length-append (s .before) (s .such ∷ s .after)) in
     record {
       at = at;
@@ -103,16 +113,19 @@ held-here k l ls front i n at size e =
       lines = refl;
       from = omega (arith, size, s .place);
       to = omega (arith, size, short);
+      first-line = λ t m. absurd (List·Memᴰ·not-nil m);
+      first-byte = rw own (clean-bytes (s .before) (s .none-before));
     }
 
 -- what the lines behind the first one hold, with that one before them
-held-further : (k : Break) (l m : Bytes) (ls : List Bytes) (front : Bytes) (i : ℕ) (r : Refusal) → Holds k (front ++ (l ++ breakBytes k)) (m ∷ ls) (suc i) r → Holds k front (l ∷ m ∷ ls) i r
-held-further k l m ls front i r h =
+held-further : (k : Break) (l m : Bytes) (ls : List Bytes) (front : Bytes) (i : ℕ) (r : Refusal) → Clean l → Holds k (front ++ (l ++ breakBytes k)) (m ∷ ls) (suc i) r → Holds k front (l ∷ m ∷ ls) i r
+held-further k l m ls front i r clean h =
     let same : (front ++ (l ++ breakBytes k)) ++ joined k (m ∷ ls) ≡ front ++ joined k (l ∷ m ∷ ls) = simp append-assoc in
     let a = length-append front (l ++ breakBytes k) in
     let b = length-append l (breakBytes k) in
     let c = length-append l (breakBytes k ++ beforeBreaks k (h .before)) in
     let d = length-append (breakBytes k) (beforeBreaks k (h .before)) in
+    let start : length (front ++ (l ++ breakBytes k)) + length (beforeBreaks k (h .before)) ≡ length front + length (l ++ (breakBytes k ++ beforeBreaks k (h .before))) = omega arith in
     record {
       at = h .at;
       before = l ∷ h .before;
@@ -124,6 +137,8 @@ held-further k l m ls front i r h =
       lines = ap (λ (t : List Bytes). l ∷ t) (h .lines);
       from = omega (arith, h .from);
       to = omega (arith, h .to);
+      first-line = each clean (h .first-line);
+      first-byte = rw start at (h .first-byte);
     }
 
 holds : (k : Break) (ls : List Bytes) (front : Bytes) (i n : ℕ) (r : Refusal) → length front ≡ n → strayBreak i (placed n k ls) ≡ some r → Holds k front ls i r
@@ -140,7 +155,7 @@ holds k (l ∷ m ∷ ls) front i n r size h =
   where
     go : (o : Option ℕ) → firstSuch ofBreak n l ≡ o → (strayBreak (suc i) (placed (n + length l + length (breakBytes k)) k (m ∷ ls)) ≡ some r → Holds k (front ++ (l ++ breakBytes k)) (m ∷ ls) (suc i) r) → Holds k front (l ∷ m ∷ ls) i r
     go (some at) e ih = rw (← Option·some-injective _ _ (rw (e, strayBreak) at h)) (held-here k l (m ∷ ls) front i n at size e)
-    go none e ih = held-further k l m ls front i r (ih (rw (e, strayBreak) at h))
+    go none e ih = held-further k l m ls front i r (clean-bytes l (such-none ofBreak n l e)) (ih (rw (e, strayBreak) at h))
 
 pub stray-points : (k : Break) (ls : List Bytes) (i at : ℕ) → strayBreak 1 (placed 0 k ls) ≡ some (underAt 3 i at) → HoldsBreak k ls i at
 stray-points k ls i at h =
@@ -157,6 +172,8 @@ stray-points k ls i at h =
       number = omega (arith, number);
       from = omega (arith, same, s .from);
       to = omega (arith, same, s .to);
+      first-line = s .first-line;
+      first-byte = rw (same, zero-add) at (s .first-byte);
     }
 
 not-laid-finds : {r : Refusal} (bytes dest : Bytes) (o : Option Refusal) → laidOnto bytes dest o .answer ≡ not-laid r → o ≡ some r

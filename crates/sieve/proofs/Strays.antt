@@ -20,7 +20,7 @@ use Rattle.sieve.proofs.Cutting.{Each}
 use Rattle.sieve.proofs.Walking.{each}
 use Rattle.sieve.proofs.Findings.{such-none, none-such}
 
-clean-bytes : (l : Bytes) → ((x : ℕ) → List·Memᴰ x l → ofBreak x ≡ false) → Clean l
+pub clean-bytes : (l : Bytes) → ((x : ℕ) → List·Memᴰ x l → ofBreak x ≡ false) → Clean l
 clean-bytes [] h = no-more
 clean-bytes (x ∷ l) h =
     let e = h x (List·Memᴰ·head refl) in

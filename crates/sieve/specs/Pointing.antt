@@ -1,7 +1,7 @@
 -- Which byte a refusal under 3 points at. Assumes nothing.
-use Prim.Native.Nat.{ℕ, suc, _+_, _≤_, _<_}
+use Prim.Native.Nat.{ℕ, suc, _+_, _-_, _≤_, _<_}
 use mathlib.Core.Bool.{true}
-use mathlib.Core.List.{List, [], _∷_, _++_}
+use mathlib.Core.List.{List, [], _∷_, _++_, List·Memᴰ}
 use mathlib.Core.Path.{_≡_}
 use lib.ListN.{length, getD, take, drop}
 use Rattle.sieve.specs.declared.Break.{Break}
@@ -9,6 +9,7 @@ use Rattle.sieve.specs.Bytes.{Bytes}
 use Rattle.sieve.specs.Lines.{breakBytes, ofBreak, joined}
 use Rattle.sieve.specs.Characters.{Width, breakWidth, lineFeeds}
 use Rattle.sieve.specs.Breaks.{Passed}
+use Rattle.sieve.specs.Lawful.{Clean}
 
 -- place `at` is the first in p, and lies on line i, where neither a character nor a break begins
 pub record BeginsNeither (w : Width) (p : Bytes) (i at : ℕ) : Type 0 where
@@ -24,7 +25,7 @@ abbrev pub beforeBreaks : Break → List Bytes → Bytes
 beforeBreaks k [] = []
 beforeBreaks k (l ∷ ls) = l ++ (breakBytes k ++ beforeBreaks k ls)
 
--- at place `at` of the joined lines lies a CR or LF that line i holds
+-- at place `at` of the joined lines lies the first CR or LF that a line holds, and line i holds it
 pub record HoldsBreak (k : Break) (ls : List Bytes) (i at : ℕ) : Type 0 where
   pub inside : at < length (joined k ls)
   pub byte : ofBreak (getD (joined k ls) at 0) ≡ true
@@ -37,3 +38,6 @@ pub record HoldsBreak (k : Break) (ls : List Bytes) (i at : ℕ) : Type 0 where
   -- it starts behind the lines before it, and the place lies in it
   pub from : length (beforeBreaks k before) ≤ at
   pub to : at < length (beforeBreaks k before) + length line
+  -- no line before it holds one, nor does it itself before that place
+  pub first-line : (l : Bytes) → List·Memᴰ l before → Clean l
+  pub first-byte : Clean (take (at - length (beforeBreaks k before)) line)

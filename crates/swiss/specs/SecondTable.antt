@@ -1,5 +1,5 @@
 -- Cases of our own, as one table under one claim, in the order of the sieve: each rule on each line that has it, broken alone, beside what just passes. Assumes nothing.
-use Prim.Native.Nat.{ℕ, zero, suc}
+use Prim.Native.Nat.{ℕ}
 use mathlib.Core.List.{List, [], _∷_, _++_, flatten}
 use lib.Dec.{T}
 use lib.ListN.{take}
@@ -12,7 +12,7 @@ use Rattle.sieve.specs.Latin.{latin}
 use Rattle.sieve.specs.Mod97.{number, remainder97}
 use Rattle.sieve.specs.Mod10.{carry, checkDigit}
 use Rattle.swiss.specs.Swiss.{rules, swiss}
-use Rattle.sieve.specs.Cases.{lines, put, putBytes, times, Case, case, right}
+use Rattle.sieve.specs.Cases.{lines, put, putBytes, times, upFrom, each, letter, umlaut, ends, euro, Case, case, right}
 use Rattle.swiss.specs.Base.{B}
 
 -- the base bill with a QR-IBAN and a QR reference; with no reference; with a debtor; with lines 32 to 34; with all of these lines
@@ -32,20 +32,6 @@ P = B ++ lines "//S1|eBill/B|eBill/B"
 abbrev F : List Bytes
 F = D ++ lines "//S1/10/10201409|eBill/B/sarah@beispiel.ch|XY;XYService;54321"
 
--- a letter, and characters of two bytes and of three; the two bytes end in BC, or in 80 and BF
-
-abbrev letter : Bytes
-letter = ascii "A"
-
-abbrev umlaut : Bytes
-umlaut = 0xC3 ∷ 0xBC ∷ []
-
-abbrev ends : Bytes
-ends = 0xC3 ∷ 0x80 ∷ 0xC3 ∷ 0xBF ∷ []
-
-abbrev euro : Bytes
-euro = 0xE2 ∷ 0x82 ∷ 0xAC ∷ []
-
 -- 994 bytes before the postcode is made longer
 abbrev long : List Bytes
 long = putBytes 6 (times 70 euro) (putBytes 7 (times 70 euro) (putBytes 8 (times 16 euro) (putBytes 30 (times 140 euro) B)))
@@ -53,15 +39,6 @@ long = putBytes 6 (times 70 euro) (putBytes 7 (times 70 euro) (putBytes 8 (times
 -- the base bill with the letter A and these bytes as its name
 abbrev named : Bytes → List Bytes
 named l = putBytes 6 (65 ∷ l) B
-
--- so many bytes from x on, and bytes with a first byte before each
-abbrev upFrom : ℕ → ℕ → Bytes
-upFrom zero x = []
-upFrom (suc n) x = x ∷ upFrom n (suc x)
-
-abbrev each : ℕ → Bytes → Bytes
-each a [] = []
-each a (x ∷ s) = a ∷ x ∷ each a s
 
 -- every allowed character, once
 abbrev everyCharacter : List Bytes

@@ -3,7 +3,8 @@ use Prim.Native.Nat.{ℕ, _+_, _-_, _≤_, _<_}
 use native.Mathlib.Omega.{arith}
 use mathlib.Core.List.{List}
 use mathlib.Core.Path.{_≡_, refl}
-use lib.Bits.{and-le-r}
+use lib.Count.{trailingZeros}
+use lib.Pow.{pow-pos}
 use lib.ListN.{length}
 use borrow.Author.Needs.{needs}
 use Rattle.sieve.specs.Bytes.{Bytes}
@@ -130,7 +131,7 @@ later-marks-requires : tie.Need-later-marks-requires Inv-loop μ-loop Inv-words 
 later-marks-requires c κs = some (at-feed (c .before))
 
 loop-less : tie.Need-loop-less Inv-loop μ-loop Inv-words μ-words
-loop-less c = let f = at-feed (c .before .before) in let left = loop-of f .loop .left in omega (arith, c .later-marks .ensures, and-le-r left (left - 1), some f)
+loop-less c = let f = at-feed (c .before .before) in let left = loop-of f .loop .left in omega (arith, c .later-marks .ensures, pow-pos (trailingZeros 64 left), some f)
 
 loop-again : tie.Need-loop-again Inv-loop μ-loop Inv-words μ-words
 loop-again c =
