@@ -30,9 +30,9 @@ NAME = re.compile(r'`([^`]+)`')
 NAMED_PROGRAM = re.compile(r'`(\w+)/(\w+)`')
 NAMED_CONTRACT = re.compile(r'\bfn\.(\w+)\.(?:Reads\.Learnt|clauses)\b')
 
-# Crates of functions that are proved by hand: their theorems take a reading of the contract that
-# stands in the same file, which shows that the contract says just that.
-OWN_READINGS = {'viewer'}
+# Functions that are proved by hand: their theorems take a reading of the contract that stands in the
+# same file, which shows that the contract says just that.
+OWN_READINGS = {('viewer', name) for name in ('open', 'done', 'line', 'next')}
 # Functions that hand out a part of what they were lent. Two such parts are compared by what a
 # program has of them, and not by the ghost name of the reference (docs/CLAIMS.md).
 PARTS = {('viewer', 'line'), ('viewer', 'line_after'), ('places', 'line')}
@@ -97,9 +97,10 @@ def public_text(crate):
 
 def is_of_form(function, statement):
     """Whether a theorem says that the function's contract, and no other, leaves one answer."""
-    if (function.crate, function.name) in PARTS:
+    key = function.crate, function.name
+    if key in PARTS:
         return True
-    reading = r'\w+' if function.crate in OWN_READINGS else rf'fn\.{function.name}\.Reads\.Learnt'
+    reading = r'\w+' if key in OWN_READINGS else rf'fn\.{function.name}\.Reads\.Learnt'
     form = rf'\s*OneAnswer fn\.{function.name}\.ended {reading}\s*'
     return re.fullmatch(form, statement) is not None
 

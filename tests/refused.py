@@ -5,6 +5,11 @@ of the proof, and not a name or a field that the change took away, nor a need th
 says to hold all the same. Where several are tried in one check (tests/wrong_programs.py), this is
 asked of each function that is changed, and no other function has a refusal of its own. Each lazy
 program in the table of docs/CLAIMS.md is refused first at the line that the table gives.
+
+A refusal shows that this program is not the proved one, and no more: a program of the same meaning
+that is written otherwise may be refused at the same place. That no other program gives another answer
+is what the contract says, with its theorem of one answer. That these programs answer wrongly,
+tests/wrong_answers shows on an input each.
 Prints a line for each failure and at the end `N passed, M failed`.
 """
 

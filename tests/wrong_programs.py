@@ -2,6 +2,10 @@
 
 A file that holds one wrong program is named after it. A file that holds several tries them in one
 check: each changes one function, and stands behind a line `# FUNCTION, NAME: why it is wrong`.
+
+Where a wrong program is shown to answer wrongly (tests/wrong_answers), a line says on what, and both
+answers. It stands before the program's texts, and where there are several behind that line:
+`# On QUESTION it answers "WRONG"; right is "RIGHT".`
 """
 
 import re
@@ -11,6 +15,7 @@ from typing import NamedTuple
 from claims import CRATES
 
 HEAD = re.compile(r'^# (?P<function>\w+), (?P<name>\w+): \S')
+SHOWN = re.compile(r'^# On (?P<question>.+) it answers "(?P<wrong>.*)"; right is "(?P<right>.*)"\.$')
 FUNCTION = re.compile(r'^(?P<indent> *)(?:pub )?(?:extern "C" )?fn (?P<name>\w+)', re.MULTILINE)
 
 
@@ -39,6 +44,14 @@ class WrongProgram(NamedTuple):
     def check(self):
         """The check that it is tried in, as CRATE/EDIT."""
         return f'{self.crate}/{self.edit.stem}'
+
+
+class Shown(NamedTuple):
+    """A question that a wrong program answers wrongly, with both answers."""
+
+    question: str
+    wrong: str
+    right: str
 
 
 def edits():
@@ -71,6 +84,24 @@ def programs_of(edit):
 def wrong_programs():
     """All wrong programs."""
     return [program for edit in edits() for program in programs_of(edit)]
+
+
+def answers_of(edit):
+    """What a file says of answers, each with the function and the name that stand before it."""
+    head = '', edit.stem
+    for line in edit.read_text('utf-8').splitlines():
+        if found := HEAD.match(line):
+            head = (found['function'], found['name'])
+        elif found := SHOWN.match(line):
+            yield head, Shown(**found.groupdict())
+
+
+def shown_programs():
+    """The wrong programs that are shown to answer wrongly, each with its question."""
+    for edit in edits():
+        programs = {(program.function, program.name): program for program in programs_of(edit)}
+        for head, shown in answers_of(edit):
+            yield programs[head], shown
 
 
 def function_at(text, place):
