@@ -6,8 +6,9 @@ tries those of one layout or of both (tests/wrong_swiss.py, tests/wrong_girocode
 tests/wrong_shared.py), or only those whose name has that word. Each is tried on a copy that has the
 definitions of `sieve` and of the layout and its two tables, and no other claim, no proof, no function
 and no worked example. There the prover is asked to show that a row of the tables is wrong: it must
-fail for the rules as they are, and succeed for each wrong rule. It is no part of the gate. Prints a
-line for each failure and at the end `N passed, M failed`.
+fail for the rules as they are, and succeed for each wrong rule. The girocode's take 15 minutes of
+processor time; it is no part of the gate. Prints a line for each failure and at the end `N passed,
+M failed`.
 """
 
 import re
