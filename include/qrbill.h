@@ -9,8 +9,9 @@
    as such: 16 bits, and 32 for the places of a pile. No pointer is null, not even where the length
    is 0.
    What stays. The calls only read what is lent as const. The list of qrbill_places and of
-   girocode_places, the answers of qrbill_pile and a destination are written to only where the call
-   succeeds, and then only in front: what lies behind stays, to the last byte.
+   girocode_places, the answers of qrbill_pile, the counts of qrbill_swift and a destination are
+   written to only where the call succeeds, and then only in front: what lies behind stays, to the
+   last byte.
    Overlap. What is written to lies apart from all else that is lent to the same call. What is only
    read may overlap.
    Threads. Nothing is kept between calls, nor shared: any number of threads may call at once, also
@@ -121,6 +122,31 @@ uint32_t qrbill_make_iban(const uint8_t *country, size_t country_length, const u
    15, 0             `answers` has room for fewer than two numbers a bill */
 uint32_t qrbill_pile(const uint8_t *buffer, size_t length, const uint32_t *places, size_t numbers,
                      uint32_t count, uint16_t *answers, size_t room);
+
+/* The contents of SWIFT's fields 59a, 32B and 70 for a bill that is paid from abroad, without tags,
+   all lines parted by CR LF:
+
+   59a   slash and IBAN; 1/ and name; 2/, street and number, if there is either; 3/, country, slash,
+         postcode and town
+   32B   currency and amount, with a comma
+   70    the kind of reference, slash and reference, and the message on three lines; or the message
+         alone on four. A line with no character is not there
+
+   A line ends at 35 characters. A character outside SWIFT's x set becomes a full stop, as does a
+   colon or hyphen that would begin a line. The answer is the number of bytes, at most 298, which are
+   the first of the destination; the first five of `counts` are then the lines of 59a, of 32B and of
+   70, how many characters were cut, and how many of those kept were replaced.
+
+   Else the answer is a refusal, and neither the destination nor `counts` has changed. In this order:
+
+                   what qrbill_read says of the payload
+   16, line 19     the bill has no amount
+   15, line 0      there is less room than bytes, or `counts` has fewer than five numbers */
+#define QRBILL_SWIFT_BYTES 298
+#define QRBILL_SWIFT_COUNTS 5
+
+uint32_t qrbill_swift(const uint8_t *payload, size_t length, uint8_t *destination, size_t room,
+                      uint16_t *counts, size_t numbers);
 
 /* The Austrian girocode (EPC QR code): the same four calls for a payload that begins with BCD. It has
    7 to 12 lines and at most 331 bytes; a list has 24 numbers, start and length of each of 12 lines.

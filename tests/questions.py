@@ -11,13 +11,16 @@
                                     and make_iban(COUNTRY, IID, ACCOUNT, ROOM)
     pile(PAYLOAD, .., NUMBERS)      a pile of bills, lent a list of so many numbers; in the place of a
                                     payload, `outside` is one that begins past the buffer
+    fields(PAYLOAD, ROOM)           SWIFT fields in so many bytes: their length, the lines of each, how many
+                                    characters were cut and how many replaced
     remainder97(TEXT)               the remainder by 97 of a text, its first four characters moved
     remainder_after(NUMBER, TEXT)   that of a number with a text more
     checks97(TEXT)                  whether check digits are right
 
 `giro_read` and `giro_write` are the girocode's, `.._by_table` are remainders by the table. The calls
 for C are asked by their own names: `qrbill_places` and `girocode_places` as `read`, `qrbill_read` and
-`girocode_read` with a payload alone, `qrbill_line` and `girocode_line` with a line's number.
+`girocode_read` with a payload alone, `qrbill_line` and `girocode_line` with a line's number, and
+`qrbill_swift` as `fields`, with how many numbers are lent for the counts.
 
 A payload is `case NAME`, or `case NAME with N: TEXT`, where line N is another; every text is written as
 in case files (tests/casefile.py), and so is an answer. It has the lent memory: 7777 and `_` stand where
@@ -38,6 +41,7 @@ from reference import girocode, qrbill
 from reference.glance import glance
 from reference.numbers import made
 from reference.pile import piled
+from reference.swift import COUNTS, Fields, fields
 
 QUESTION = re.compile(r'(\w+)\((.*)\)')
 PAYLOAD = re.compile(r'case (?P<name>\S+)(?: with (?P<line>[0-9]+): (?P<text>.*))?')
@@ -226,6 +230,24 @@ def piling(which, for_c, *words):
                  right + shown_list([] if refused else entries, room))
 
 
+def mapping(which, payload, room, numbers=None):
+    """SWIFT fields; for C where so many numbers are lent for the counts."""
+    payload, room = text_of(payload), int(room)
+    lent = COUNTS if numbers is None else int(numbers)
+    answer = fields(payload, room, lent)
+    laid = isinstance(answer, Fields)
+    counts = [*answer.lines, answer.cut, answer.replaced] if laid else []
+    if numbers is not None:
+        told = b'%d' % len(answer.data) if laid else packed(qrbill, answer)
+        told += shown_list(counts, lent)
+    elif laid:
+        told = b'%d bytes, lines %d %d %d, cut %d, replaced %d' % (len(answer.data), *counts)
+    else:
+        told = spoken(qrbill, answer)
+    right = told + shown_bytes(answer.data if laid else b'', room)
+    return asked(which, [room, lent], [payload], right)
+
+
 def remainder_of(which, text):
     """The remainder by 97 of a text, its first four characters moved."""
     return asked(which, [], [text_of(text)], b'%d' % remainder_97(text_of(text)))
@@ -259,6 +281,7 @@ ASKERS = {
     'make_iban': partial(making, b'i', 'iban', spoken),
     'qrbill_make_iban': partial(making, b'I', 'iban', packed),
     'pile': partial(piling, b'p', False), 'qrbill_pile': partial(piling, b'P', True),
+    'fields': partial(mapping, b'f'), 'qrbill_swift': partial(mapping, b'F'),
     'remainder_after': partial(remainder_after, b'1'),
     'remainder_after_by_table': partial(remainder_after, b'2'),
     'remainder97': partial(remainder_of, b'3'), 'remainder97_by_table': partial(remainder_of, b'4'),

@@ -2,4 +2,5 @@ pub mod Packs
 pub mod Made
 pub mod Piled
 pub mod Read
+pub mod Swift
 pub mod OneAnswer

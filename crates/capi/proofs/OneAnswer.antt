@@ -1,5 +1,5 @@
 -- The contract of each public function leaves one answer. Assumes nothing.
-use mathlib.Core.Path.{refl, sym, ap, _∙_}
+use mathlib.Core.Path.{refl, sym, ap, ap₂, _∙_}
 use Rattle.sieve.specs.OneAnswer.{OneAnswer}
 use Rattle.capi.proofs as fn
 
@@ -32,3 +32,7 @@ one-qrbill-make-iban κs a x y v w h k = (h .number ∙ sym (k .number), ap (λ 
 -- the list at exit too
 pub one-qrbill-pile : OneAnswer fn.qrbill_pile.ended fn.qrbill_pile.Reads.Learnt
 one-qrbill-pile κs a x y v w h k = (h .number ∙ sym (k .number), ap (λ d. (tt, (tt, (tt, (d, tt))))) (h .lent ∙ sym (k .lent)))
+
+-- the destination and the list at exit too
+pub one-qrbill-swift : OneAnswer fn.qrbill_swift.ended fn.qrbill_swift.Reads.Learnt
+one-qrbill-swift κs a x y v w h k = (h .number ∙ sym (k .number), ap₂ (λ d l. (tt, (d, (l, tt)))) (h .lent ∙ sym (k .lent)) (h .told ∙ sym (k .told)))

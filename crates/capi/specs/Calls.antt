@@ -1,17 +1,24 @@
--- What the calls for C answer of the account, of a number that is made, and of a pile. Assumes nothing.
+-- What the calls for C answer of the account, of a number that is made, of a pile, and of SWIFT fields. Assumes nothing.
 use Prim.Native.Nat.{ℕ}
 use mathlib.Core.Bool.{Bool}
-use mathlib.Core.List.{List}
+use mathlib.Core.List.{List, [], _∷_, _++_}
 use mathlib.Core.Option.{Option, some, none}
 use mathlib.Core.Path.{_≡_}
 use lib.ListN.{length}
 use Rattle.sieve.specs.Bytes.{Bytes}
+use Rattle.sieve.specs.Lines.{cut, linesOf}
+use Rattle.sieve.specs.Reading.{noRoom}
+use Rattle.sieve.specs.Rules.{Layout}
 use Rattle.sieve.specs.Verdict.{Refusal, first}
 use Rattle.glance.specs.declared.Account.{Account}
 use Rattle.glance.specs.declared.Account.the-variants.{Unknown, At}
 use Rattle.packing.specs.Packing.{packedRefusal, packedPlace, packedLaying}
 use Rattle.numbers.specs.Making.{makeAnswer}
+use Rattle.packing.specs.Telling.{Told, toldOnto}
 use Rattle.pile.specs.Pile.{entries, pileFindings, filledBy}
+use Rattle.swift.specs.declared.Counts.{Counts}
+use Rattle.swift.specs.Fields.{contents, countsOf}
+use Rattle.swift.specs.Answering.{fieldFindings}
 
 -- where the account stands; 0 where it is not known
 abbrev pub packedAccount : Account → ℕ
@@ -32,3 +39,19 @@ packedPile (some r) = packedRefusal r
 pub record IsPackedPiled (buffer : Bytes) (places : List ℕ) (count : ℕ) (answers : List ℕ) (r : ℕ) (after : List ℕ) : Type 0 where
   pub number : r ≡ packedPile (first (pileFindings buffer places count (length answers)))
   pub lent : after ≡ filledBy (entries buffer places count) answers (first (pileFindings buffer places count (length answers)))
+
+-- the counts as numbers: lines of 59a, of 32B and of 70, characters cut, characters replaced
+abbrev pub toldCounts : Counts → List ℕ
+toldCounts c = c .beneficiary ∷ c .transaction ∷ c .remittance ∷ c .cut ∷ c .replaced ∷ []
+
+-- of a payload, a destination and a list: what the fields find, and last of all room for the five counts
+unfoldable pub swiftAnswer : Layout → Bytes → Bytes → List ℕ → Told
+swiftAnswer L p dest list =
+    let ls = linesOf (cut p) in
+    toldOnto (contents ls) (toldCounts (countsOf ls)) dest list (first (fieldFindings L p (length dest) ++ (noRoom (length list) 5 ∷ [])))
+
+-- the number r, the destination and the list afterwards
+pub record IsPackedFields (L : Layout) (p dest : Bytes) (list : List ℕ) (r : ℕ) (after : Bytes) (counts : List ℕ) : Type 0 where
+  pub number : r ≡ swiftAnswer L p dest list .number
+  pub lent : after ≡ swiftAnswer L p dest list .dest
+  pub told : counts ≡ swiftAnswer L p dest list .list

@@ -1,5 +1,5 @@
 // Calls for C: the verdict on a payload and the place of a line as one number each, the list of places, the account at a
-// glance, the writer, numbers of our own, and a pile of bills.
+// glance, the writer, numbers of our own, a pile of bills, and SWIFT fields.
 use glance::Account;
 use glance::glance;
 use numbers::make_iban;
@@ -12,10 +12,15 @@ use packing::packed_line;
 use packing::packed_place;
 use packing::packed_refusal;
 use packing::packed_verdict;
+use packing::room_beside;
 use packing::told_count;
 use pile::Piled;
 use pile::pile;
 use reader::read;
+use runs::fill;
+use swift::Counts;
+use swift::Mapped;
+use swift::fields;
 use swiss::limits::MOST_LINES;
 use swiss_judge::judge;
 use swiss_judge::verdict;
@@ -28,6 +33,8 @@ ghost use Rattle.packing.specs.Calls.{packedLine, IsPackedRead, IsPackedWritten
 ghost use Rattle.glance.specs.Glance.{glance, accountAs};
 ghost use Rattle.numbers.specs.Made.{qrrPart, madeQrr, scorPart, madeScor, ibanParts, madeIban};
 ghost use Rattle.capi.specs.Calls.{packedAccount, IsPackedMade, IsPackedPiled};
+ghost use Rattle.capi.specs.Calls.{toldCounts, IsPackedFields};
+ghost use Rattle.swift.specs.Promised.{AreSmall};
 
 // The line count of an accepted payload; of a refused one 1000 times the refusal plus the line.
 #[no_mangle]
@@ -130,5 +137,37 @@ pub extern "C" fn qrbill_pile(buffer: &[u8], places: &[u32], count: u32, answers
     match pile(buffer, places, count as usize, answers) {
         Piled::Done => 0,
         Piled::Refused(fault) => packed_refusal(fault),
+    }
+}
+
+// The counts as numbers: lines of 59a, of 32B and of 70, characters cut, characters replaced.
+fn told_counts(counts: Counts) -> [u16; 5]
+    requires { ⌜ AreSmall counts ⌝ }
+    ensures { λ r. ⌜ r ≡ toldCounts counts ⌝ }
+{
+    [
+        counts.beneficiary as u16,
+        counts.transaction as u16,
+        counts.remittance as u16,
+        counts.cut as u16,
+        counts.replaced as u16,
+    ]
+}
+
+// How many bytes of SWIFT fields lie in the destination's front, with the counts in that of the list; else 1000 times the
+// refusal plus the line, and neither has changed.
+#[no_mangle]
+pub extern "C" fn qrbill_swift(payload: &[u8], dest: &mut [u8], list: &mut [u16]) -> u32
+    ensures { λ r.
+        ⌜ IsPackedFields swiss (now (payload .entry)) (now (dest .entry)) (now (list .entry)) r (now (dest .exit))
+        (now (list .exit)) ⌝ }
+{
+    let room = room_beside(dest.len(), list.len(), 5);
+    match fields(payload, &mut dest[0..room]) {
+        Mapped::Refused(fault) => packed_refusal(fault),
+        Mapped::Laid(counts) => {
+            fill(list, &told_counts(counts));
+            counts.bytes as u32
+        }
     }
 }

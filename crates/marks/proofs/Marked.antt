@@ -2,7 +2,7 @@
 use Prim.Native.Nat.{ℕ, zero, suc, _+_, _-_, _*_, _/_, _%_, _^_, _≤_, _<_}
 use native.Mathlib.Nat.{add-zero, sub-zero}
 use native.Mathlib.Omega.{arith}
-use mathlib.Core.Bool.{Bool, true, false, _&&_, _||_, and-eq-true-iff}
+use mathlib.Core.Bool.{Bool, true, false, _&&_, _||_}
 use mathlib.Core.List.{[], _∷_}
 use mathlib.Core.Path.{_≡_, refl, sym, ap, ap₂, _∙_}
 use lib.Arith.{mod-mul}
@@ -10,25 +10,13 @@ use lib.Bits.{bitAnd, bitOr, and-zero-r, and-block, or-block, or-lt}
 use lib.Dec.{eqb}
 use lib.ListN.{length, getD}
 use lib.Pow.{pow-pos, pow-add}
-use borrow.Author.Tests.{eqb-true, eqb-false}
+use borrow.Author.Tests.{eqb-true}
 use Rattle.sieve.specs.Bytes.{Bytes}
 use Rattle.sieve.specs.Latin.{inOne}
+use Rattle.sieve.proofs.Below.{below, each-of}
 use Rattle.marks.specs.Words.{word, each}
 use Rattle.marks.specs.Marks.{marksOf, Marks, no-byte, unmarked, marked}
 use Rattle.marks.proofs.Words.{each-below}
-
--- every number below n passes a test
-abbrev below : (ℕ → Bool) → ℕ → Bool
-below f zero = true
-below f (suc n) = f n && below f n
-
-each-of : (f : ℕ → Bool) (n : ℕ) → below f n ≡ true → (i : ℕ) → i < n → f i ≡ true
-each-of f zero h i k = absurd (omega arith)
-each-of f (suc n) h i k = go (eqb i n) refl (and-eq-true-iff (f n) (below f n) .0 h) (each-of f n)
-  where
-    go : (b : Bool) → eqb i n ≡ b → (f n ≡ true) × (below f n ≡ true) → (below f n ≡ true → (i : ℕ) → i < n → f i ≡ true) → f i ≡ true
-    go true e (here, rest) more = rw (eqb-true i n e) here
-    go false e (here, rest) more = more rest i (omega (arith, eqb-false i n e))
 
 -- the mark of a byte from which c more is taken, and to which d more is added
 abbrev mark : ℕ → ℕ → ℕ → ℕ

@@ -1,3 +1,4 @@
 pub mod Packing
+pub mod Telling
 pub mod Calls
 pub mod OneAnswer

@@ -12,6 +12,7 @@ ghost use Rattle.sieve.specs.Paper.{paperFault, paper, paperWritten};
 ghost use Rattle.packing.specs.Packing.{shift, packedRefusal, packedPlace, mark, packedCount, breakFor};
 ghost use Rattle.packing.specs.Packing.{Packs, packed, packedVerdict, PacksLaying, packedLaying, toldCount};
 ghost use Rattle.packing.specs.Calls.{listedPlace, Lists, linePlace};
+ghost use Rattle.packing.specs.Telling.{roomBeside};
 
 // What the number of a refusal, or the start of a place, is multiplied by.
 const SHIFT: u32 = 1000;
@@ -76,6 +77,17 @@ pub fn break_for(crlf: bool) -> Break
     ensures { λ r. ⌜ r ≡ breakFor crlf ⌝ }
 {
     if crlf { Break::CrLf } else { Break::Lf }
+}
+
+// The room that a call lends on which tells numbers beside its answer: none, so that nothing is laid, where the list has
+// too few numbers for them. Room is asked for last, so every other refusal still comes first.
+pub fn room_beside(room: usize, numbers: usize, told: usize) -> usize
+    ensures { λ r. ⌜ r ≡ roomBeside room numbers told ⌝ }
+{
+    if numbers < told {
+        return 0;
+    }
+    room
 }
 
 // A verdict without its kind of break: the line count, or the refusal.

@@ -1,4 +1,5 @@
 pub mod Bounds
+pub mod Below
 pub mod EachPlace
 pub mod Alphabets
 pub mod Folds

@@ -1,0 +1,17 @@
+pub mod Laying
+pub mod Filling
+pub mod Bounds
+pub mod Contents
+pub mod Rows
+pub mod Beginning
+pub mod Pages
+pub mod Texts
+pub mod Fours
+pub mod Remitting
+pub mod Following
+pub mod Making
+pub mod Stages
+pub mod Small
+pub mod Promise
+pub mod OneAnswer
+pub mod Whole
