@@ -1,24 +1,25 @@
 /* The reader and the writer of Swiss QR-bill payloads in plain C, written for speed: the calls of
    include/qrbill.h, which says what they answer, to compare with. Tested, not proved.
 
-   One walk over the bytes notes where each line starts, and nothing else. All breaks being alike, a
-   line's size is the way from its start to the next one, less a break. Then come the rules, line
-   after line, each written out where its line is reached. What few bills need is found out only for
-   them: the characters of a line that has more bytes than its limit, and which break is unlike the
-   first one. */
+   One walk over the bytes notes where each line starts, and whether a character has more bytes than
+   one. All breaks being alike, a line's size is the way from its start to the next one, less a break.
+   Then come the rules, line after line, each written out where its line is reached. What few bills
+   need is found out only for them: the characters of a line that has more bytes than its limit, those
+   of each line where not all have one byte, and which break is unlike the first one. */
 
 #include "qrbill.h"
 
 #include <string.h>
 
-enum { MOST_BYTES = 997, FEWEST_LINES = 31, MOST_LINES = 34, LIST_NUMBERS = 2 * MOST_LINES };
+enum { MOST_BYTES = 997, FEWEST_LINES = 31, MOST_LINES = 34, EACH = 3 };
+enum { LIST_NUMBERS = EACH * MOST_LINES }; /* of each line its start, its bytes and its characters */
 enum { MOST_TOLD = 999 }; /* of a count of lines that is refused: a packed line has three digits */
 
 /* The refusals, from 1 on. */
 enum {
     NO_BYTES = 1, TOO_MANY_BYTES, BAD_CHARACTER, MIXED_BREAKS, LINE_COUNT,
     NOT_FIXED_TEXT, NOT_EMPTY, MISSING, TOO_LONG, BAD_FORM, BAD_CHECK_DIGITS,
-    UNPAIRED, TOO_LONG_TOGETHER, OUTSIDE_TEXT, NO_ROOM
+    UNPAIRED, TOO_LONG_TOGETHER, OUTSIDE_TEXT, NO_ROOM, OTHER_CHARACTERS = 18
 };
 
 static inline uint32_t refused(uint32_t refusal, size_t line)
@@ -32,6 +33,7 @@ struct bill {
     const uint8_t *payload;
     uint32_t count; /* of lines */
     uint32_t width; /* of a break: 1 or 2 */
+    bool wide;      /* whether a character has more bytes than one */
     uint32_t starts[MOST_BYTES + 3];
 };
 
@@ -125,6 +127,7 @@ static inline uint32_t cut(const uint8_t *payload, size_t length, struct bill *b
     ptrdiff_t at = 0, end = del == NULL ? (ptrdiff_t)length : del - payload;
     size_t line = 1, returns = 0;
     bill->payload = payload;
+    bill->wide = false;
     bill->starts[1] = 0;
     while (pass_plain(payload, &at, end)) {
         if (payload[at] == '\n') {
@@ -137,6 +140,7 @@ static inline uint32_t cut(const uint8_t *payload, size_t length, struct bill *b
             unsigned bytes = wide_character(payload + at, end - at);
             if (bytes == 0)
                 return refused(BAD_CHARACTER, line);
+            bill->wide = true;
             at += bytes;
             pass_accented(payload, &at, end);
         }
@@ -153,16 +157,21 @@ static inline uint32_t cut(const uint8_t *payload, size_t length, struct bill *b
     return 0;
 }
 
-/* How many characters a line has. They are at most its bytes, so that only a line with more bytes
-   than its limit has to be counted. A count of 16 bits is faster than a wider one. */
-static uint32_t characters(const struct bill *bill, size_t line)
+/* How many characters so many bytes have, at most 65535 of them: those that are not the later bytes of
+   one. A count of 16 bits is faster than a wider one. */
+static inline uint32_t characters_in(const uint8_t *text, uint32_t size)
 {
-    const uint8_t *text = text_of(bill, line);
-    uint32_t size = size_of(bill, line);
     uint16_t later = 0;
     for (uint32_t i = 0; i < size; i++)
         later = (uint16_t)(later + is_later(text[i]));
     return size - later;
+}
+
+/* How many characters a line has. They are at most its bytes, so that only a line with more bytes
+   than its limit has to be counted. */
+static uint32_t characters(const struct bill *bill, size_t line)
+{
+    return characters_in(text_of(bill, line), size_of(bill, line));
 }
 
 /* Forms and check digits. */
@@ -505,6 +514,28 @@ uint32_t qrbill_places(const uint8_t *payload, size_t length, uint16_t *places, 
     if (numbers < LIST_NUMBERS)
         return refused(NO_ROOM, 0);
     for (size_t line = 1; line <= bill.count; line++) {
+        uint16_t *entry = places + EACH * (line - 1);
+        entry[0] = (uint16_t)bill.starts[line];
+        entry[1] = entry[2] = (uint16_t)size_of(&bill, line);
+    }
+    for (size_t line = 1; bill.wide && line <= bill.count; line++)
+        places[EACH * line - 1] = (uint16_t)characters(&bill, line);
+    for (size_t line = bill.count + 1; line <= MOST_LINES; line++) {
+        uint16_t *entry = places + EACH * (line - 1);
+        entry[0] = (uint16_t)length;
+        entry[1] = entry[2] = 0;
+    }
+    return bill.count + (bill.width == 2 ? 100 : 0);
+}
+
+/* What qrbill_places answers, with start and length alone of each line, as bench/swift.c needs them. */
+uint32_t lines_of(const uint8_t *payload, size_t length, uint16_t *places)
+{
+    struct bill bill;
+    uint32_t refusal = judge(payload, length, &bill);
+    if (refusal != 0)
+        return refusal;
+    for (size_t line = 1; line <= bill.count; line++) {
         places[2 * line - 2] = (uint16_t)bill.starts[line];
         places[2 * line - 1] = (uint16_t)size_of(&bill, line);
     }
@@ -563,9 +594,26 @@ static void join(const uint8_t *text, const uint16_t *places, size_t count, bool
             *to++ = '\r';
         if (i > 0)
             *to++ = '\n';
-        memcpy(to, text + places[2 * i], places[2 * i + 1]);
-        to += places[2 * i + 1];
+        memcpy(to, text + places[EACH * i], places[EACH * i + 1]);
+        to += places[EACH * i + 1];
     }
+}
+
+/* Refuses the first line that lies outside the text, and then the first that has other characters than
+   the list says. Where a short text has a character for each byte, so has each line. */
+static inline uint32_t judge_places(const uint8_t *text, size_t length, const uint16_t *places,
+                                    size_t count)
+{
+    for (size_t i = 0; i < count; i++)
+        if ((size_t)places[EACH * i] + places[EACH * i + 1] > length)
+            return refused(OUTSIDE_TEXT, i + 1);
+    bool wide = length > MOST_BYTES || characters_in(text, (uint32_t)length) < length;
+    for (size_t i = 0; i < count; i++) {
+        const uint16_t *entry = places + EACH * i;
+        if (entry[2] != (wide ? characters_in(text + entry[0], entry[1]) : entry[1]))
+            return refused(OTHER_CHARACTERS, i + 1);
+    }
+    return 0;
 }
 
 uint32_t qrbill_write(const uint8_t *text, size_t length, const uint16_t *places, size_t numbers,
@@ -578,14 +626,14 @@ uint32_t qrbill_write(const uint8_t *text, size_t length, const uint16_t *places
         return refused(NO_ROOM, 0);
     if (count < FEWEST_LINES || count > MOST_LINES)
         return refused(LINE_COUNT, count < MOST_TOLD ? count : MOST_TOLD);
-    for (size_t i = 0; i < count; i++)
-        if ((size_t)places[2 * i] + places[2 * i + 1] > length)
-            return refused(OUTSIDE_TEXT, i + 1);
+    uint32_t refusal = judge_places(text, length, places, count);
+    if (refusal != 0)
+        return refusal;
 
     size_t total = (count - 1u) * (crlf ? 2 : 1);
     for (size_t i = 0; i < count; i++) {
-        const uint8_t *line = text + places[2 * i];
-        size_t line_length = places[2 * i + 1];
+        const uint8_t *line = text + places[EACH * i];
+        size_t line_length = places[EACH * i + 1];
         if (memchr(line, '\r', line_length) != NULL || memchr(line, '\n', line_length) != NULL)
             return refused(BAD_CHARACTER, i + 1);
         total += line_length;
@@ -593,7 +641,7 @@ uint32_t qrbill_write(const uint8_t *text, size_t length, const uint16_t *places
     if (total > MOST_BYTES)
         return refused(TOO_MANY_BYTES, 0);
     join(text, places, count, crlf, joined);
-    uint32_t refusal = judge(joined, total, &bill);
+    refusal = judge(joined, total, &bill);
     if (refusal != 0)
         return refusal;
     if (room < total)

@@ -5,7 +5,10 @@
 
 #include "qrbill.h"
 
-enum { WIDTH = 35, ROWS = 9, LINES = 34, PER_LINE = QRBILL_NUMBERS / LINES };
+/* In bench/sieve.c: the verdict, with start and length of each line. */
+uint32_t lines_of(const uint8_t *payload, size_t length, uint16_t *places);
+
+enum { WIDTH = 35, ROWS = 9, LINES = 34 };
 enum { NO_ROOM = 15000, NO_AMOUNT = 16019 };
 
 struct text {
@@ -89,8 +92,8 @@ static void lay(struct page *page, struct row *row)
 
 static inline struct text line(const uint8_t *payload, const uint16_t *places, size_t number)
 {
-    const uint8_t *at = payload + places[PER_LINE * (number - 1)];
-    return (struct text){at, at + places[PER_LINE * (number - 1) + 1]};
+    const uint8_t *at = payload + places[2 * number - 2];
+    return (struct text){at, at + places[2 * number - 1]};
 }
 
 static inline bool is_empty(struct text text)
@@ -162,9 +165,9 @@ static void lay_remittance(struct page *page, const uint8_t *payload, const uint
 uint32_t qrbill_swift(const uint8_t *payload, size_t length, uint8_t *destination, size_t room,
                       uint16_t *counts, size_t numbers)
 {
-    uint16_t places[QRBILL_NUMBERS];
+    uint16_t places[2 * LINES];
     struct page page;
-    const uint32_t answer = qrbill_places(payload, length, places, QRBILL_NUMBERS);
+    const uint32_t answer = lines_of(payload, length, places);
     if (answer >= 1000)
         return answer;
     if (is_empty(line(payload, places, 19)))

@@ -57,6 +57,15 @@ static void complete(void)
     lines[31] = "EPD";
 }
 
+/* The bytes other than 80 to BF: those that begin a character. */
+static uint16_t characters(const char *text)
+{
+    uint16_t n = 0;
+    for (; *text; text++)
+        n += ((uint8_t)*text & 0xC0) != 0x80;
+    return n;
+}
+
 int main(int argc, char **argv)
 {
     static uint8_t text[MOST_BYTES + 1], payload[MOST_BYTES];
@@ -77,8 +86,9 @@ int main(int argc, char **argv)
             return 1;
         }
         memcpy(text + end, lines[line], size);
-        list[2 * line - 2] = (uint16_t)end;
-        list[2 * line - 1] = (uint16_t)size;
+        list[3 * line - 3] = (uint16_t)end;
+        list[3 * line - 2] = (uint16_t)size;
+        list[3 * line - 1] = characters(lines[line]);
         end += size;
         if (size > 0 && line > count)
             count = line;

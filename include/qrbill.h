@@ -28,8 +28,11 @@
 extern "C" {
 #endif
 
-/* The numbers of a list of places: start and length in bytes of each of 34 lines. */
-#define QRBILL_NUMBERS 68
+/* The numbers of a list of places: start, bytes and characters of each of 34 lines, those of line i
+   from number 3 (i - 1) on. A host that kept a list of 68 numbers, start and bytes alone, which is now
+   refused under 15, has to lend 102, to look for line i there and not from 2 (i - 1) on, and to give
+   the characters of each line that it has written. */
+#define QRBILL_NUMBERS 102
 
 /* The number of lines, 31 to 34, if the payload is accepted. If it is refused, 1000 times the
    refusal plus the line that the refusal names, below 1000. The refusals:
@@ -57,12 +60,13 @@ uint32_t qrbill_read(const uint8_t *payload, size_t length);
    line 1 is never empty, and no other starts at 0. */
 uint32_t qrbill_line(const uint8_t *payload, size_t length, uint32_t line);
 
-/* Where all lines of an accepted payload stand: start and length of each of 34 lines are the first
-   68 numbers of the list, as qrbill_line has them. The answer is the number of lines, plus 100 if
-   the breaks are CR LF.
+/* Where all lines of an accepted payload stand: start, bytes and characters of each of 34 lines are
+   the first 102 numbers of the list; start and bytes as qrbill_line has them, and as characters
+   count the bytes other than 80 to BF. Of an absent line they are the payload's length, 0 and 0. The
+   answer is the number of lines, plus 100 if the breaks are CR LF.
 
    If the payload is refused, the answer is that of qrbill_read; if it is accepted and the list has
-   fewer than 68 numbers, 15000. The list is then as it was. */
+   fewer than 102 numbers, 15000. The list is then as it was. */
 uint32_t qrbill_places(const uint8_t *payload, size_t length, uint16_t *list, size_t numbers);
 
 /* Where the IBAN stands, at a glance: 1000 times its start plus its length, or 0 for not known. It
@@ -73,16 +77,17 @@ uint32_t qrbill_places(const uint8_t *payload, size_t length, uint16_t *list, si
 uint32_t qrbill_glance(const uint8_t *payload, size_t length);
 
 /* Writes a bill of `count` lines, with LF between them or, if `crlf` is true, CR LF. Line i is the
-   part of the text that starts at number 2 (i - 1) of the list, from 0, and has as many bytes as
-   the next number says; parts may overlap, and lie in any order. What the list says of lines past
-   the count does not matter. The answer is the number of bytes, at most 997, which are the first
-   of the destination.
+   part of the text that starts at number 3 (i - 1) of the list, from 0, and has as many bytes as
+   the next number says, and as many characters as the one after it; parts may overlap, and lie in
+   any order. What the list says of lines past the count does not matter. The answer is the number
+   of bytes, at most 997, which are the first of the destination.
 
    Else the answer is a refusal, and the destination is as it was. In this order:
 
-   15, line 0      the list has fewer than 68 numbers
+   15, line 0      the list has fewer than 102 numbers
     5, the count   not 31 to 34 lines; for a count above 999 the line is 999
    14, the line    a line's part lies outside the text
+   18, the line    a line has another number of characters than the list says
     3, the line    a line holds CR or LF
                    what qrbill_read says of the bytes that would be written
    15, line 0      there is less room than bytes to write */
@@ -151,9 +156,10 @@ uint32_t qrbill_swift(const uint8_t *payload, size_t length, uint8_t *destinatio
 /* The Austrian girocode (EPC QR code): the same four calls for a payload that begins with BCD. It has
    7 to 12 lines and at most 331 bytes; a list has 24 numbers, start and length of each of 12 lines.
    girocode_line takes a line of 1 to 12, and girocode_write a count of 7 to 12, at most 331 bytes and
-   a list of 24 numbers or more, where the calls for the Swiss bill take 34, 31 to 34, 997 and 68.
-   The characters are those of ISO 8859-1 if the third line is 2, and otherwise those of the Swiss
-   bill. Answers are packed in the same way. The refusals that differ:
+   a list of 24 numbers or more, where the calls for the Swiss bill take 34, 31 to 34, 997 and 102.
+   Line i has the numbers 2 (i - 1) and 2 (i - 1) + 1 of the list. The characters are those of ISO
+   8859-1 if the third line is 2, and otherwise those of the Swiss bill. Answers are packed in the
+   same way. The refusals that differ:
 
     2  over 331 bytes                               10  BIC, IBAN, amount, purpose or reference is
     5  not 7 to 12 lines; the line is their count       not of its form
@@ -161,7 +167,7 @@ uint32_t qrbill_swift(const uint8_t *payload, size_t length, uint8_t *destinatio
     8  name, IBAN, last line, or BIC under version      line is 11
        001 is empty                                 17  the coding is 3 to 8; the line is 3
 
-   7 and 13 never come. */
+   7, 13 and 18 never come. */
 #define GIROCODE_NUMBERS 24
 
 uint32_t girocode_read(const uint8_t *payload, size_t length);

@@ -12,14 +12,14 @@ FOLDER = kit.ROOT / 'tests' / 'host'
 SIEVE = kit.ROOT / 'bench' / 'sieve.c'
 CALLS = ('read', 'line', 'places', 'glance', 'write')
 
-REFUSALS = range(16)  # 0: none
+REFUSALS = range(19)  # 0: none
 
 # Those that have to come at least once. No bytes (1) and a break unlike the first one (4) never come
-# of the writer, which lays 30 breaks or more, all alike.
+# of the writer, which lays 30 breaks or more, all alike. 16 and 17 are told by other calls.
 MUST_COME = {
     'read': range(14),
     'places': (*range(14), 15),
-    'write': (0, 2, 3, *range(5, 16)),
+    'write': (0, 2, 3, *range(5, 16), 18),
 }
 
 # Accepted bills come more often, so that most payloads stay near one. What is longer than the host

@@ -33,10 +33,11 @@ def checks_of_accepted(payload, answer, paper):
     """The places give the payload back, by hand and by the writer; too little room does not."""
     count, brk, places = answer
     no_room, short = paper.Refused(15, 0), paper.LIST_NUMBERS - 1
-    cut = [payload[places[2 * line]:places[2 * line] + places[2 * line + 1]]
+    each = paper.LIST_NUMBERS // paper.MOST_LINES  # numbers of a line
+    cut = [payload[places[each * line]:places[each * line] + places[each * line + 1]]
            for line in range(count)]
     yield 'lines joined', payload, BREAKS[brk].join(cut)
-    yield 'absent lines', (paper.MOST_LINES - count) * [len(payload), 0], places[2 * count:]
+    yield 'absent lines', (paper.MOST_LINES - count) * [len(payload), 0, 0][:each], places[each * count:]
     yield f'read with {short} numbers', no_room, paper.read(payload, short)
     exact = len(payload)
     yield 'write', paper.Written(payload), paper.write(payload, places, count, brk, exact)

@@ -27,16 +27,17 @@ def built_lender(library: Path, folder: Path, layout=SWISS) -> Path:
 def attempt(dice, payload, layout=SWISS):
     """The lines of a payload where they lie in it; half the time with one thing changed."""
     most, fewest = layout.reference.MOST_LINES, layout.reference.FEWEST_LINES
-    whole = record_of(payload, 2 * most)
+    size = layout.reference.LIST_NUMBERS
+    whole = record_of(payload, size, size // most)
     places, length = list(whole.places), len(payload)
     change = dice.below(10)
     if change == 0:  # a list that is too short or too long
-        return whole._replace(places=(places + [7, 7])[:dice.pick([0, 2 * most - 1, 2 * most + 1, 2 * most + 2])])
+        return whole._replace(places=(places + [7, 7])[:dice.pick([0, size - 1, size + 1, size + 2])])
     if change == 1:
         return whole._replace(count=dice.pick([0, *COUNTS, *range(fewest - 1, most + 2)]))
     if change == 2:
         number = dice.pick([0, 1, min(length, LARGEST), LARGEST])
-        places[dice.below(2 * most)] = number
+        places[dice.below(size)] = number
         return whole._replace(places=places)
     if change == 3:
         return whole._replace(crlf=not whole.crlf)
@@ -85,12 +86,13 @@ def differing_records(program, records, layout=SWISS):
     return [record for record, wanted, got in tried if wanted != got]
 
 
-def smaller(record, differs):
+def smaller(record, differs, each=3):
     """A record that still differs, with less text: if that differs too, one whose lines lie where
-    they lie in the text, with as much room more or less than that; or else with the same list."""
+    they lie in the text, with as much room more or less than that; or else with the same list. A
+    line has so many numbers in the list."""
     def laid_out(text):
         room = record.room + len(text) - len(record.text)
-        return record_of(text, len(record.places))._replace(room=max(0, room))
+        return record_of(text, len(record.places), each)._replace(room=max(0, room))
     for with_text in (laid_out, lambda text: record._replace(text=text)):
         if differs(with_text(record.text)):
             return with_text(shrunk(record.text, lambda text: differs(with_text(text))))
@@ -107,6 +109,8 @@ def shown(result):
 
 def record_described(name, program, record, layout=SWISS):
     """A text about a record whose result is not the expected one, made smaller."""
-    small = smaller(record, lambda some: results(program, [some]) != [expected_result(some, layout)])
+    each = layout.reference.LIST_NUMBERS // layout.reference.MOST_LINES
+    small = smaller(record, lambda some: results(program, [some]) != [expected_result(some, layout)],
+                    each)
     got, = results(program, [small])
     return f'{name}: {told_of(small, shown(expected_result(small, layout)), shown(got))}'

@@ -24,7 +24,7 @@ CRATE = Path(__file__).resolve().parent.parent / 'crates' / 'cases'
 
 MOST_STORED = 2000  # bytes of a payload
 MOST_RECORD = 65536  # bytes of a record that the program can hold
-MOST_NUMBERS, MOST_ROOM = 70, 1200  # of a list and of a destination, in the program
+MOST_NUMBERS, MOST_ROOM = 104, 1200  # of a list and of a destination, in the program
 NUMBER_BYTES = 2
 DONE = b'.0:'  # what is written of a viewer that is done: an empty part
 
@@ -49,8 +49,8 @@ def kind_of(brk):
 def view_line(payload, answer):
     """The line with what a viewer hands out: each line of an accepted payload, and then that it is
     done, where the lines end, one move after that and after a million moves."""
-    entries = answer.places[:2 * answer.lines] if isinstance(answer, Accepted) else []
-    lines = [payload[start:start + length] for start, length in zip(entries[::2], entries[1::2])]
+    entries = answer.places[:3 * answer.lines] if isinstance(answer, Accepted) else []
+    lines = [payload[start:start + length] for start, length in zip(entries[::3], entries[1::3])]
     return b''.join(b'+%d:%s' % (len(text), text) for text in lines) + 3 * DONE + b'\n'
 
 

@@ -4,7 +4,8 @@
     whole(PAYLOAD)                  rules 1 to 5 of a bill
     read(PAYLOAD, NUMBERS)          the reader, lent a list of so many numbers
     write(PAYLOAD, BREAK, ROOM)     the writer, handed the lines that LF or CRLF parts the payload into,
-                                    and lent so many bytes; a fourth word is another count of lines
+                                    and lent so many bytes; a fourth word is another count of lines, and
+                                    words behind it, INDEX=NUMBER, are other numbers of the list
     view(PAYLOAD, MOVES)            the viewer's answer, and what it says and hands out after so many moves
     glance(PAYLOAD)                 the account at a glance
     make_qrr(DIGITS, ROOM)          a number of our own, in so many bytes, as by make_scor(REFERENCE, ROOM)
@@ -149,13 +150,21 @@ def reading(which, layout, told, payload, room):
     return asked(which, [room], [payload], told(layout, answer) + shown_list(places, room))
 
 
-def writing(which, layout, told, payload, brk, room, count=None):
+def numbers_each(layout):
+    """How many numbers a layout's list has for a line."""
+    return layout.LIST_NUMBERS // layout.MOST_LINES
+
+
+def writing(which, layout, told, payload, brk, room, count=None, *others):
     """A writer on a payload's lines. Each is handed over where its text first stands among them, so
     that places overlap."""
     lines, room = text_of(payload).split(BREAKS[brk]), int(room)
     text, count = b''.join(lines), int(count or len(lines))
-    places = [number for line in lines for number in (text.find(line), len(line))]
+    entries = ([text.find(line), len(line), qrbill.characters(line)] for line in lines)
+    places = [number for entry in entries for number in entry[:numbers_each(layout)]]
     places = (places + layout.LIST_NUMBERS * [0])[:layout.LIST_NUMBERS]
+    for index, number in (map(int, other.split('=')) for other in others):
+        places[index] = number
     answer = layout.write(text, places, count, brk, room)
     data = answer.data if isinstance(answer, layout.Written) else b''
     return asked(which, [count, brk == 'CRLF', room], [text, struct.pack(f'<{len(places)}H', *places)],
@@ -168,7 +177,7 @@ def viewing(payload, moves):
     answer = qrbill.read(payload)
     shown = b', done, line '
     if isinstance(answer, qrbill.Accepted) and moves < answer.lines:
-        start, length = answer.places[2 * moves:2 * moves + 2]
+        start, length = answer.places[3 * moves:3 * moves + 2]
         shown = b', not done, line ' + payload[start:start + length]
     return asked(b'v', [moves], [payload], spoken(qrbill, answer) + shown)
 
@@ -186,7 +195,8 @@ def placing(which, layout, payload, line):
     payload, line = text_of(payload), int(line)
     answer, place = layout.read(payload), 0
     if isinstance(answer, layout.Accepted) and 1 <= line <= layout.MOST_LINES:
-        start, length = answer.places[2 * line - 2:2 * line]
+        entry = numbers_each(layout) * (line - 1)
+        start, length = answer.places[entry:entry + 2]
         place = 1000 * start + length
     return asked(which, [line], [payload], b'%d' % place)
 

@@ -5,9 +5,9 @@ from typing import NamedTuple
 
 from damage import break_of, lines_of
 from framing import framed
-from reference.qrbill import LIST_NUMBERS
+from reference.qrbill import LIST_NUMBERS, characters
 
-MOST_NUMBERS, MOST_ROOM = 100, 1200  # as in record.h
+MOST_NUMBERS, MOST_ROOM = 104, 1200  # as in record.h
 LARGEST = 2**16 - 1  # of the numbers in a list
 
 
@@ -28,13 +28,15 @@ class Record(NamedTuple):
         return framed(head + self.text)
 
 
-def record_of(payload, numbers=LIST_NUMBERS):
-    """The lines of a payload where they lie in it, to be written again from so many numbers."""
+def record_of(payload, numbers=LIST_NUMBERS, each=3):
+    """The lines of a payload where they lie in it, to be written again from so many numbers, of which
+    each line has so many."""
     brk = break_of(payload)
     places, start = [], 0
     for line in lines_of(payload):
-        places += [min(start, LARGEST), min(len(line), LARGEST)]
+        entry = [start, len(line), characters(line)][:each]
+        places += [min(value, LARGEST) for value in entry]
         start += len(line) + len(brk)
-    count = len(places) // 2
+    count = len(places) // each
     places = (places + numbers * [0])[:numbers]
     return Record(payload, places, count, brk == b'\r\n', MOST_ROOM)

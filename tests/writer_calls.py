@@ -9,7 +9,7 @@ from typing import NamedTuple
 
 from casefile import bill_lines, read_cases
 from chance import Dice
-from reference.qrbill import BREAKS, Accepted, read
+from reference.qrbill import BREAKS, Accepted, characters, read
 from text_payloads import runs
 
 MOST_ROOM = 1200  # of a destination
@@ -38,18 +38,20 @@ LONGEST = {  # lines as long as they may be, where that breaks no other rule
 }
 
 
-def bill(lines=(), places=(), numbers=68, **others):
-    """The base bill with other texts for some lines and other places for some lines. The lines lie
-    end to end, without breaks: the writer's text need not be a payload."""
+def bill(lines=(), places=(), numbers=102, **others):
+    """The base bill with other texts for some lines and other places for some lines, each with the
+    characters that lie there unless it says others. The lines lie end to end, without breaks: the
+    writer's text need not be a payload."""
     texts = BASE + 3 * [b'']
     for line, text in dict(lines).items():
         texts[line - 1] = text
     laid = []
     for before, text in enumerate(texts):
-        laid += [len(b''.join(texts[:before])), len(text)]
-    for line, place in dict(places).items():
-        laid[2 * line - 2:2 * line] = place
-    return Call(b''.join(texts), (laid + [0, 0])[:numbers], **others)
+        laid += [len(b''.join(texts[:before])), len(text), characters(text)]
+    whole = b''.join(texts)
+    for line, (start, size, *told_of) in dict(places).items():
+        laid[3 * line - 3:3 * line] = start, size, *(told_of or [characters(whole[start:start + size])])
+    return Call(whole, (laid + [0, 0])[:numbers], **others)
 
 
 # The calls.
@@ -57,10 +59,12 @@ def bill(lines=(), places=(), numbers=68, **others):
 def neighbours():
     """Two faults at once, for each two neighbours of the order."""
     for brk in BREAKS:
-        for numbers in (0, 1, 67):
+        for numbers in (0, 1, 101):
             yield bill(numbers=numbers, count=30, brk=brk)
         for count in (30, 35):
             yield bill(places={1: OUTSIDE}, count=count, brk=brk)
+        yield bill(places={1: (0, 3, 4), 31: OUTSIDE}, brk=brk)
+        yield bill({1: b'SPC\n'}, {31: (0, 3, 2)}, brk=brk)
         yield bill({1: b'SPC\n'}, {31: OUTSIDE}, brk=brk)
         yield bill({1: b'SPD', 31: b'EPD\r'}, brk=brk)
         yield bill({2: b'\x00', 6: 998 * b'a', 31: b'EPD\n'}, brk=brk)
@@ -81,21 +85,21 @@ def reader_refusals():
 def far_apart():
     """Two faults that are no neighbours of the order, and all of them at once."""
     stray, wrong = {31: b'EPD\n'}, {1: b'SPD'}
-    yield bill(numbers=67, places={1: OUTSIDE})
-    yield bill(stray, numbers=67)
-    yield bill(numbers=67, room=0)
+    yield bill(numbers=101, places={1: OUTSIDE})
+    yield bill(stray, numbers=101)
+    yield bill(numbers=101, room=0)
     yield bill(stray, count=30)
     yield bill(count=35, room=0)
     yield bill(wrong, {31: OUTSIDE})
     yield bill(places={31: OUTSIDE}, room=0)
     yield bill(stray, room=0)
-    for numbers, count in ((67, 30), (68, 30), (68, 31)):
+    for numbers, count in ((101, 30), (102, 30), (102, 31)):
         yield bill(stray | wrong, {7: OUTSIDE}, numbers=numbers, count=count, room=0)
 
 
 def lists_and_counts():
     """Lists and counts about their limits; places past the count that would be wrong."""
-    for numbers in (66, 67, 68, 69, 70):
+    for numbers in (67, 68, 100, 101, 102, 103, 104):
         yield bill(numbers=numbers)
     last = {32: b'//S1', 33: b'a', 34: b'b'}
     for count in (0, 1, 30, 31, 32, 33, 34, 35, 36, 255, 256, 65535):
@@ -120,7 +124,7 @@ def places_in_the_text():
                         (1, 65535), (65535, 1), (65535, 65535), (32768, 32768), (65535, 0)):
         for number in (1, 30, 31):
             yield bill(places={number: (start, size)})
-    name = bill().places[10:12]
+    name = bill().places[15:18]
     yield bill(places={number: name for number in (6, 7, 10)})
     yield bill(places={6: (0, 40), 7: (10, 40), 10: (20, 10), 30: (0, length)})
     yield bill(places={number: (0, 0) for number in range(12, 19)})
@@ -133,8 +137,28 @@ def backwards(brk):
     """The base bill whose last line comes first in the text."""
     laid = []
     for line, text in enumerate(BASE, start=1):
-        laid += [len(b''.join(BASE[line:])), len(text)]
-    return Call(b''.join(reversed(BASE)), laid + 6 * [0], brk=brk)
+        laid += [len(b''.join(BASE[line:])), len(text), characters(text)]
+    return Call(b''.join(reversed(BASE)), laid + 9 * [0], brk=brk)
+
+
+def wrong_counts():
+    """Other characters than a line has: one more, one fewer, its bytes; in the first line and the last,
+    in two, past the count, in damaged text, and with faults that come later."""
+    umlauts, damaged = 'Für €'.encode(), b'a\x80\xC3\xBFb\xFF'
+    for brk in BREAKS:
+        for number in (1, 6, 31):
+            start, size, there = bill().places[3 * number - 3:3 * number]
+            for told_of in (there - 1, there + 1, 0, 65535):
+                yield bill(places={number: (start, size, told_of)}, brk=brk)
+        for text in (umlauts, damaged):
+            start = bill({30: text}).places[87]
+            for told_of in range(len(text) + 1):
+                yield bill({30: text}, {30: (start, len(text), told_of)}, brk=brk)
+        yield bill(places={7: (0, 3, 2), 3: (0, 3, 4)}, brk=brk)
+        yield bill(places={32: (0, 3, 2)}, brk=brk)
+        yield bill(places={32: (0, 3, 2)}, count=32, brk=brk)
+        for later in ({1: b'SPD'}, {30: b'\x00'}, {6: 998 * b'a'}):
+            yield bill(later, {31: (0, 3, 2)}, brk=brk, room=0)
 
 
 def stray_breaks():
@@ -162,9 +186,9 @@ def lengths():
             yield long_bill(spare + more, brk)
     text = 4000 * b'a'
     for brk in BREAKS:
-        yield Call(text, 34 * [0, 4000], 34, brk)
-        yield Call(text, 34 * [0, 30], 34, brk)
-        yield Call(text + b'\n', 33 * [0, 4000] + [0, 4001], 34, brk)
+        yield Call(text, 34 * [0, 4000, 4000], 34, brk)
+        yield Call(text, 34 * [0, 30, 30], 34, brk)
+        yield Call(text + b'\n', 33 * [0, 4000, 4000] + [0, 4001, 4001], 34, brk)
 
 
 def long_bill(more, brk):
@@ -211,12 +235,13 @@ def damaged_bills():
             spoiler = dice.pick(SPOILERS)
             text[below(len(text))] = spoiler
         for _ in range(below(3) if turn % 3 else 1):
-            places[below(64)] = below(12) if below(2) else below(len(text) + 2)
+            places[below(96)] = below(12) if below(2) else below(len(text) + 2)
         yield whole._replace(text=bytes(text), places=places)
 
 
 def calls():
     """All calls, in one order."""
     for some in (neighbours, reader_refusals, far_apart, lists_and_counts, rooms,
-                 places_in_the_text, stray_breaks, lengths, round_trips, runs_as_lines, damaged_bills):
+                 places_in_the_text, wrong_counts, stray_breaks, lengths, round_trips,
+                 runs_as_lines, damaged_bills):
         yield from some()

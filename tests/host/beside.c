@@ -28,8 +28,8 @@ __typeof__(qrbill_places) plain_places;
 __typeof__(qrbill_glance) plain_glance;
 __typeof__(qrbill_write) plain_write;
 
-enum { MARK = 0xAA, MOST_NUMBERS = 70, MOST_ROOM = 1200, MOST_COUNT = MOST_NUMBERS / 2 };
-enum { LARGEST = 65535, REFUSALS = 16 };
+enum { EACH = 3, MOST_COUNT = 35, MOST_NUMBERS = EACH * MOST_COUNT }; /* in a list, EACH for a line */
+enum { MARK = 0xAA, MOST_ROOM = 1200, LARGEST = 65535, REFUSALS = 19 };
 
 /* What both sides are asked. */
 struct question {
@@ -126,28 +126,50 @@ static void lay_out(void)
     asked.front = below(4) ? 0 : below(2) ? below(100) : LARGEST - payload->length;
     asked.numbers = QRBILL_NUMBERS + below(3);
     for (size_t i = 0; i < MOST_COUNT; i++) {
-        asked.places[2 * i] = (uint16_t)(i < count ? asked.front + lines[i].start : stray);
-        asked.places[2 * i + 1] = (uint16_t)(i < count ? lines[i].length : stray);
+        uint16_t *entry = &asked.places[EACH * i];
+        entry[0] = (uint16_t)(i < count ? asked.front + lines[i].start : stray);
+        entry[1] = (uint16_t)(i < count ? lines[i].length : stray);
+        entry[2] = (uint16_t)(i < count ? characters(payload, lines[i]) : stray);
     }
 }
 
+/* What the list says of a line's characters is so, if the line lies in the payload. */
+static void recount(uint16_t *entry)
+{
+    const struct part line = {(size_t)entry[0] - asked.front, entry[1]};
+    if (entry[0] >= asked.front && line.start + line.length <= asked.payload.length)
+        entry[2] = (uint16_t)characters(&asked.payload, line);
+}
+
 /* A line starts elsewhere, or has another length: one more or less, or just up to the end of the
-   text or past it. */
+   text or past it. Its characters are mostly counted again. */
 static void change_place(void)
 {
     const size_t end = asked.front + asked.payload.length, half = below(2);
-    uint16_t *place = &asked.places[2 * below(asked.count)], *number = place + half;
+    uint16_t *place = &asked.places[EACH * below(asked.count)], *number = place + half;
     const size_t left = end - place[1 - half];
     const size_t others[] = {0, 1, *number - 1u, *number + 1u, left, left + 1, LARGEST};
     *number = (uint16_t)others[below(sizeof others / sizeof *others)];
+    if (below(4))
+        recount(place);
+}
+
+/* A line, which may be past the count, is said to have other characters: one more or less, its bytes,
+   or those of the whole payload. */
+static void change_characters(void)
+{
+    const struct part whole = {0, asked.payload.length};
+    uint16_t *entry = &asked.places[EACH * below(MOST_COUNT)];
+    const size_t others[] = {0, entry[2] - 1u, entry[2] + 1u, entry[1],
+                             characters(&asked.payload, whole), LARGEST};
+    entry[2] = (uint16_t)others[below(sizeof others / sizeof *others)];
 }
 
 /* A line is taken from where another lies. */
 static void copy_place(void)
 {
     const size_t one = below(asked.count), other = below(asked.count);
-    asked.places[2 * one] = asked.places[2 * other];
-    asked.places[2 * one + 1] = asked.places[2 * other + 1];
+    memcpy(&asked.places[EACH * one], &asked.places[EACH * other], EACH * sizeof *asked.places);
 }
 
 /* Half the time one thing changes that the writer is lent or told. */
@@ -156,7 +178,7 @@ static void change(void)
     static const uint32_t counts[] = {
         0, 30, 31, 32, 33, 34, 35, 255, 256, 287, 999, 1000, 65567, 4294967295,
     };
-    switch (below(10)) {
+    switch (below(12)) {
     case 0:
         asked.numbers = QRBILL_NUMBERS - 1 - below(2);
         break;
@@ -172,6 +194,9 @@ static void change(void)
     case 4:
         asked.crlf = !asked.crlf;
         break;
+    case 5:
+        change_characters();
+        break;
     default:
         break;
     }
@@ -182,7 +207,7 @@ static size_t needed_room(void)
 {
     size_t room = 0;
     for (size_t i = 0; i < asked.count && i < MOST_COUNT; i++)
-        room += asked.places[2 * i + 1] + (i == 0 ? 0u : asked.crlf ? 2u : 1u);
+        room += asked.places[EACH * i + 1] + (i == 0 ? 0u : asked.crlf ? 2u : 1u);
     return room < MOST_ROOM ? room : MOST_ROOM;
 }
 
@@ -206,7 +231,7 @@ static size_t some_room(void)
 static void next_question(void)
 {
     damaged_start(&asked.payload);
-    asked.line = (uint32_t)below(QRBILL_NUMBERS / 2 + 2);
+    asked.line = (uint32_t)below(QRBILL_NUMBERS / EACH + 2);
     asked.list_numbers = QRBILL_NUMBERS + below(3) - (below(8) ? 0 : 2);
     lay_out();
     change();

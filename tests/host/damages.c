@@ -162,8 +162,7 @@ static void lay(struct payload *payload, size_t line, const void *text, size_t s
     replace(payload, line_at(payload, line), text, size);
 }
 
-/* How many characters a part has, by their first bytes. */
-static size_t characters(const struct payload *payload, struct part part)
+size_t characters(const struct payload *payload, struct part part)
 {
     size_t count = 0;
     for (size_t i = 0; i < part.length; i++)

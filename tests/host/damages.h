@@ -36,6 +36,9 @@ void damaged_start(struct payload *payload);
    are. */
 size_t cut(const struct payload *payload, struct part lines[], size_t most);
 
+/* How many characters a part has, by their first bytes: those other than 80 to BF. */
+size_t characters(const struct payload *payload, struct part part);
+
 /* Whether the first break is CR LF. */
 bool has_returns(const struct payload *payload);
 

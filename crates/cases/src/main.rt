@@ -96,7 +96,7 @@ fn write_view(payload: &[u8]) {
 }
 
 fn run_reading(payload: &[u8]) {
-    let mut list = [0u16; 68];
+    let mut list = [0u16; 102];
     write_answer(reader::read(payload, &mut list));
     write_view(payload);
 }
@@ -163,7 +163,7 @@ fn run_call(call: &[u8], list: &mut [u16], dest: &mut [u8]) {
 }
 
 fn run_writing(call: &[u8]) {
-    let mut list = [0; 70];
+    let mut list = [0; 104];
     let mut dest = [0; 1200];
     run_call(call, &mut list, &mut dest);
 }

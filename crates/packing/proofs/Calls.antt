@@ -17,7 +17,7 @@ use Rattle.sieve.specs.Bytes.{Bytes, within}
 use Rattle.sieve.specs.Lawful.{Lawful}
 use Rattle.sieve.specs.Lines.{billOf}
 use Rattle.sieve.specs.Paper.{Laying, not-laid, paper, paperWritten}
-use Rattle.sieve.specs.Places.{placesOf, listSize}
+use Rattle.sieve.specs.Places.{listSize}
 use Rattle.sieve.specs.Reading.{Done, IsRead}
 use Rattle.sieve.specs.Rules.{Layout}
 use Rattle.sieve.specs.Verdict.{Verdict, under, accepted, refused, findings, first, verdict}
@@ -28,9 +28,9 @@ use Rattle.sieve.proofs.Findings.{settled-refuses, verdict-is}
 use Rattle.sieve.proofs.Numbers.{Each, Small, line-count}
 use Rattle.sieve.proofs.SmallAnswers.{read-line, read-count, write-line, write-length}
 use Rattle.whole.specs.Judged.{IsJudged}
-use Rattle.whole.proofs.Shown.{shown}
+use Rattle.whole.proofs.Shown.{lie}
 use Rattle.packing.specs.Packing.{Packs, packedVerdict, PacksLaying, packedLaying, toldCount}
-use Rattle.packing.specs.Calls.{listedPlace, linePlace, packedLine, IsPackedRead, IsPackedWritten}
+use Rattle.packing.specs.Calls.{listedPlace, linePlace, linesLie, packedLine, IsPackedRead, IsPackedWritten}
 
 -- the front of a list has the numbers of the list
 in-front : (m : ℕ) (l : List ℕ) (i : ℕ) → i < m → getD (take m l) i 0 ≡ getD l i 0
@@ -103,7 +103,7 @@ module _ {L : Layout} (is : Packable L) where
       go (Length n) e = omega (arith, write-length L (is .laws) (is .two) (is .small) h e, is .short)
       go (NotWritten f) e = write-line L (is .laws) (is .two) (is .small) h low e
 
-  -- of a line that the layout may have, the walk's list says what the layout's list says
+  -- of a line that the layout may have, the walk's list says where it lies
   pub line-packed : {p : Bytes} {q : Answer} {places : List ℕ} → IsJudged L p q places → (i : ℕ) → linePlace (L .most-lines) places i (paper q) ≡ packedLine L p i (verdict L p)
   line-packed {p} {q} {places} h i = rw (← h .answer) (go q refl)
     where
@@ -111,11 +111,11 @@ module _ {L : Layout} (is : Packable L) where
       go (Refused f) e = refl
       go (Accepted n k) e = listed (within 1 (L .most-lines) i) refl
         where
-          listed : (b : Bool) → within 1 (L .most-lines) i ≡ b → cond b (listedPlace places i) 0 ≡ cond b (listedPlace (placesOf L (billOf p)) i) 0
+          listed : (b : Bool) → within 1 (L .most-lines) i ≡ b → cond b (listedPlace places i) 0 ≡ cond b (listedPlace (linesLie L (billOf p)) i) 0
           listed false w = refl
           listed true w =
               let (least, most) = is-within 1 _ i w in
-              sym (listed-in-front (listSize L) places i (omega (arith, least, most))) ∙ ap (λ (l : List ℕ). listedPlace l i) (shown L p (rw e at h) (is .few) (is .short))
+              sym (listed-in-front (2 * L .most-lines) places i (omega (arith, least, most))) ∙ ap (λ (l : List ℕ). listedPlace l i) (lie L p (rw e at h) (is .few) (is .short))
 
 -- with a list that is long enough, a count that the layout has not is told under 5, and 999 in its place where it is more
 pub count-told : (L : Layout) (text dest after : Bytes) (list : List ℕ) (count : ℕ) (k : Break) (n : ℕ) → L .most-lines < 999 → listSize L ≤ length list → within (L .fewest-lines) (L .most-lines) count ≡ false

@@ -6,8 +6,8 @@ use mathlib.Core.Path.{_≡_}
 use lib.ListN.{length, getD}
 use Rattle.sieve.specs.declared.Break.{Break}
 use Rattle.sieve.specs.Bytes.{Bytes, within}
-use Rattle.sieve.specs.Lines.{billOf}
-use Rattle.sieve.specs.Places.{placesOf}
+use Rattle.sieve.specs.Lines.{Bill, written, billOf}
+use Rattle.sieve.specs.Places.{placed, entries}
 use Rattle.sieve.specs.Reading.{readAnswer}
 use Rattle.sieve.specs.Rules.{Layout}
 use Rattle.sieve.specs.Verdict.{Verdict, accepted, refused}
@@ -28,9 +28,13 @@ abbrev pub linePlace : ℕ → List ℕ → ℕ → Verdict → ℕ
 linePlace most places i (refused r) = 0
 linePlace most places i (accepted n k) = cond (within 1 most i) (listedPlace places i) 0
 
--- so of a layout's payload and verdict; of the lines that the layout may have, an absent one lies at the end and has no bytes
+-- where the lines of a bill lie, of those that its layout may have: an absent one lies at the end and has no bytes
+abbrev pub linesLie : Layout → Bill → List ℕ
+linesLie L b = entries (L .most-lines) (length (written b)) (placed 0 (b .break) (b .lines))
+
+-- so of a layout's payload and verdict
 abbrev pub packedLine : Layout → Bytes → ℕ → Verdict → ℕ
-packedLine L p i v = linePlace (L .most-lines) (placesOf L (billOf p)) i v
+packedLine L p i v = linePlace (L .most-lines) (linesLie L (billOf p)) i v
 
 -- of a payload and a list, the number r and the list afterwards
 pub record IsPackedRead (L : Layout) (p : Bytes) (list : List ℕ) (r : ℕ) (after : List ℕ) : Type 0 where

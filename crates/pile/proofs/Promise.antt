@@ -55,7 +55,7 @@ module _ {buffer : Bytes} {places : List ℕ} {count : ℕ} {answers after : Lis
       rw (laid, drop-append-le (2 * i) E (drop (length E) answers) (omega (arith, entries-length buffer places count)), entry-next buffer places count i k, append-assoc (entry v)) (take-at (entry v) _ 2 (entry-length v))
 
   -- that is the reader's answer on the bill alone, for any list with room for its places
-  pub as-the-reader : (i : ℕ) → i < count → (list : List ℕ) → 68 ≤ length list → take 2 (drop (2 * i) after) ≡ entry (readAnswer swiss (lineAt buffer places i) list .answer)
+  pub as-the-reader : (i : ℕ) → i < count → (list : List ℕ) → 102 ≤ length list → take 2 (drop (2 * i) after) ≡ entry (readAnswer swiss (lineAt buffer places i) list .answer)
   unfolding swiss
   as-the-reader i k list room = own-entry i k ∙ ap entry (sym (answer-is-verdict swiss (lineAt buffer places i) list room))
 

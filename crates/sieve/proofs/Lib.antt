@@ -20,6 +20,7 @@ pub mod Findings
 pub mod Stages
 pub mod Accepts
 pub mod Earliest
+pub mod Measuring
 pub mod Placing
 pub mod DemandThree
 pub mod LazyVerdicts

@@ -19,9 +19,10 @@ use Rattle.sieve.specs.Verdict.{Refusal, under, underAt, found, refused,
 use Rattle.sieve.specs.Breaks.{Passed, Breaks, no-bytes, too-many-bytes, bad-character, mixed-breaks, too-few-lines, too-many-lines, a-line-rule}
 use Rattle.sieve.specs.Paper.{not-laid}
 use Rattle.sieve.specs.Lawful.{Clean}
-use Rattle.sieve.specs.Places.{placed, listSize}
+use Rattle.sieve.specs.Places.{placed, listSize, innerOf}
 use Rattle.sieve.specs.Pointing.{BeginsNeither, beforeBreaks, HoldsBreak}
 use Rattle.sieve.specs.Writing.{outside, spans, handed, strayBreak, writeFindings, laidOnto, writeAnswer}
+use Rattle.sieve.proofs.Measuring.{mismeasured-found}
 use Rattle.sieve.proofs.Earliest.{refused-earliest}
 use Rattle.sieve.proofs.Findings.{found-some, first-at, such-at, such-none, verdict-is}
 use Rattle.sieve.proofs.Cutting.{Each}
@@ -182,7 +183,7 @@ not-laid-finds bytes dest (some q) h = cc
 
 module _ (L : Layout) (text : Bytes) (list : List ℕ) (count : ℕ) (k : Break) (dest : Bytes) (i at : ℕ) where
   abbrev ls : List Bytes
-  ls = handed text list count
+  ls = handed text (innerOf L count list) count
 
   abbrev bytes : Bytes
   bytes = joined k ls
@@ -210,11 +211,14 @@ module _ (L : Layout) (text : Bytes) (list : List ℕ) (count : ℕ) (k : Break)
   unfolding writeFindings
   found-points zero h before = no-place (ltb (length list) (listSize L)) 15 0 h
   found-points (suc zero) h before = no-place (not (within (L .fewest-lines) (L .most-lines) count)) 5 count h
-  found-points (suc (suc zero)) h before = outside-points (firstSuch (outside (length text)) 1 (spans count list)) h
-  found-points (suc (suc (suc zero))) h before = inl (stray-points k ls i at h)
-  found-points (suc (suc (suc (suc zero)))) h before = reader-points h (λ q e. absurd (omega (arith, before 3 q e)))
-  found-points (suc (suc (suc (suc (suc zero))))) h before = no-place (ltb (length dest) (length bytes)) 15 0 h
-  found-points (suc (suc (suc (suc (suc (suc j)))))) h before = absurd (Option·none-ne-some _ h)
+  found-points (suc (suc zero)) h before = outside-points (firstSuch (outside (length text)) 1 (spans count (innerOf L count list))) h
+  found-points (suc (suc (suc zero))) h before =
+      let (j, s, _) = mismeasured-found (L .measures) 1 list ls _ h in
+      absurd (Option·none-ne-some at (sym (ap (λ (r : Refusal). r .place) s)))
+  found-points (suc (suc (suc (suc zero)))) h before = inl (stray-points k ls i at h)
+  found-points (suc (suc (suc (suc (suc zero))))) h before = reader-points h (λ q e. absurd (omega (arith, before 4 q e)))
+  found-points (suc (suc (suc (suc (suc (suc zero)))))) h before = no-place (ltb (length dest) (length bytes)) 15 0 h
+  found-points (suc (suc (suc (suc (suc (suc (suc j))))))) h before = absurd (Option·none-ne-some _ h)
 
   pub writer-points : writeAnswer L text list count k dest .answer ≡ not-laid (underAt 3 i at) → Points
   unfolding writeAnswer

@@ -1,11 +1,14 @@
 -- `reader::read` meets its contract: what the verdict says of the payload leaves one way for the reading to end. Assumes nothing.
+use Prim.Native.Nat.{_<_}
 use native.Mathlib.Omega.{arith}
-use mathlib.Core.Path.{refl, sym, _∙_}
+use mathlib.Core.Path.{refl, sym}
+use lib.ListN.{length}
+use Rattle.sieve.specs.Lines.{billOf}
+use Rattle.sieve.proofs.Placing.{list-length}
 use Rattle.swiss.specs.Swiss.{swiss}
-use Rattle.runs.proofs.Lays.{laid-in}
 use Rattle.whole.proofs.Judging.{judged-length}
 use Rattle.whole.proofs.Reading.{ends-refused, ends-short, ends-listed}
-use Rattle.swiss_judge.proofs.Places.{all-shown}
+use Rattle.reader.proofs.Shown.{inside, shown}
 use borrow.Author.Needs.{needs}
 use Rattle.reader.proofs.read.Statement.{statement}
 use Rattle.reader.proofs.read.Tie as tie
@@ -21,15 +24,21 @@ enum-known-n c = search needs
 
 returns : tie.Need-returns
 unfolding swiss
-returns c = ends-short (c .before .before .before .before .judge .ensures) (c .before .before .n .given .1) (c .if1 .taken) refl
+returns c =
+    let at-judge = c .before .before .before .before in
+    let short : length (at-judge .before .before .before .before .args .list .now) < 102 = omega (arith, c .if1 .taken) in
+    ends-short (at-judge .judge .ensures) (c .before .before .n .given .1) short refl
 
-slice-aggregate-fill : tie.Need-slice-aggregate-fill
-slice-aggregate-fill c =
-    let at-judge = c .before .before .before .before .before .before in
+slice-aggregate-show : tie.Need-slice-aggregate-show
+slice-aggregate-show c =
+    let at-judge = c .before .before .before .before .before in
     search (needs, sym (judged-length (at-judge .judge .ensures)))
 
-fill-requires : tie.Need-fill-requires
-fill-requires c κs = search needs
+show-requires : tie.Need-show-requires
+show-requires c κs =
+    let at-room = c .before .before in
+    let judged = at-room .before .before .before .before .judge .ensures in
+    (inside (rw (at-room .before .before .n .given .1) at judged), at-room .if1 .left)
 
 returns-2 : tie.Need-returns-2
 returns-2 c = ends-refused (c .before .before .before .judge .ensures) (c .before .f .given .1) refl
@@ -42,10 +51,9 @@ unfolding swiss
 returns-3 c =
     let at-room = c .before .before .before .before .before in
     let judged = at-room .before .before .before .before .judge .ensures in
-    let size = judged-length judged in
-    let shown = all-shown (rw (at-room .before .before .n .given .1) at judged) in
-    let laid = c .before .before .fill .ensures .1 ∙ laid-in _ _ (omega (arith, size, at-room .if1 .left)) in
-    ends-listed judged (at-room .before .before .n .given .1) (at-room .if1 .left) (rw (size, shown) at laid)
+    let list = shown (rw (at-room .before .before .n .given .1) at judged) in
+    let size = list-length swiss (billOf (at-room .before .before .before .before .before .before .before .before .args .payload .now)) in
+    ends-listed judged (at-room .before .before .n .given .1) (at-room .if1 .left) (rw (list, size) at (c .before .before .show .ensures))
 
 pub read-spec : {M : Type 1} → statement M
 read-spec =
@@ -55,8 +63,8 @@ read-spec =
     enum-known-f
     enum-known-n
     returns
-    slice-aggregate-fill
-    fill-requires
+    slice-aggregate-show
+    show-requires
     returns-2
     same-length
     returns-3)

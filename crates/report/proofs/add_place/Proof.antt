@@ -8,7 +8,7 @@ use lib.ListN.{length-append}
 use types.Run.{OneOf, miss}
 use denote.Enum.Declared.{tagOf}
 use Rattle.sieve.specs.declared.Fault.{Fault}
-use Rattle.sieve.specs.declared.Fault.the-variants.{NoBytes, TooManyBytes, BadCharacter, MixedBreaks, LineCount, NotFixedText, NotEmpty, Missing, TooLong, BadForm, BadCheckDigits, Unpaired, TooLongTogether, OutsideText, NoRoom, NoAmount, UnreadCoding}
+use Rattle.sieve.specs.declared.Fault.the-variants.{NoBytes, TooManyBytes, BadCharacter, MixedBreaks, LineCount, NotFixedText, NotEmpty, Missing, TooLong, BadForm, BadCheckDigits, Unpaired, TooLongTogether, OutsideText, NoRoom, NoAmount, UnreadCoding, Mismeasured}
 use Rattle.sieve.specs.Bytes.{ascii}
 use Rattle.sieve.specs.Paper.{paperFault}
 use Rattle.sieve.proofs.Fault.{the-type}
@@ -20,7 +20,7 @@ use Rattle.report.proofs.add_place.Tie as tie
 
 -- the cases but the third
 abbrev others : List ℕ
-others = 0 ∷ 1 ∷ 3 ∷ 4 ∷ 5 ∷ 6 ∷ 7 ∷ 8 ∷ 9 ∷ 10 ∷ 11 ∷ 12 ∷ 13 ∷ 14 ∷ 15 ∷ 16 ∷ []
+others = 0 ∷ 1 ∷ 3 ∷ 4 ∷ 5 ∷ 6 ∷ 7 ∷ 8 ∷ 9 ∷ 10 ∷ 11 ∷ 12 ∷ 13 ∷ 14 ∷ 15 ∷ 16 ∷ 17 ∷ []
 
 points-nowhere : (f : Fault) → OneOf others (tagOf the-type f) → paperFault f .place ≡ none
 points-nowhere NoBytes h = refl
@@ -40,6 +40,7 @@ points-nowhere (OutsideText i) h = refl
 points-nowhere NoRoom h = refl
 points-nowhere (NoAmount i) h = refl
 points-nowhere (UnreadCoding i) h = refl
+points-nowhere (Mismeasured i) h = refl
 
 enum-known-fault : tie.Need-enum-known-fault
 enum-known-fault c = search needs
