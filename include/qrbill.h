@@ -11,7 +11,8 @@
    What stays. The calls only read what is lent as const. The list of qrbill_places and of
    girocode_places, the answers of qrbill_pile, the counts of qrbill_swift and a destination are
    written to only where the call succeeds, and then only in front: what lies behind stays, to the
-   last byte.
+   last byte. So it is with the room of qrbill_hand, but that what is written there lies behind what
+   is held.
    Overlap. What is written to lies apart from all else that is lent to the same call. What is only
    read may overlap.
    Threads. Nothing is kept between calls, nor shared: any number of threads may call at once, also
@@ -47,9 +48,10 @@ extern "C" {
                                                         characters; the line is 32
 
    Refusals 1 and 2 name line 0. Every call that tells refusals packs them in this way: an answer of
-   1000 or more is a refusal, `answer / 1000` its number and `answer % 1000` its line. Three calls
-   tell none: qrbill_line, qrbill_glance and girocode_line answer with a place, or 0. Which byte
-   refusal 3 is about, no call here tells: the program qrbill does, as does the library in Rattle. */
+   1000 or more is a refusal, `answer / 1000` its number and `answer % 1000` its line. Four calls tell
+   none: qrbill_line, qrbill_glance and girocode_line answer with a place, or 0, and qrbill_hand with
+   a length. Which byte refusal 3 is about, no call here tells: the program qrbill does, as does the
+   library in Rattle. */
 uint32_t qrbill_read(const uint8_t *payload, size_t length);
 
 /* Where a line of an accepted payload stands: 1000 times its start plus its length, both in bytes
@@ -152,6 +154,24 @@ uint32_t qrbill_pile(const uint8_t *buffer, size_t length, const uint32_t *place
 
 uint32_t qrbill_swift(const uint8_t *payload, size_t length, uint8_t *destination, size_t room,
                       uint16_t *counts, size_t numbers);
+
+/* A payload that comes in bits, as from a serial scanner: each is handed over as it arrives, and is
+   put behind what is held. `held` is a room of the caller's, of `room` bytes, and its first `length`
+   are held: 0 to begin with, or to begin anew, whatever the room has in it, and then as many as the
+   call before has answered. A bit has any number of bytes, also none.
+
+   The answer is the new length; only the bytes of the bit are written, behind those that were held.
+   Once there are over 997 in all it is 998, whatever follows, and so it is for a `length` over 997.
+   The room is then as it was.
+
+   At the close, call qrbill_read or qrbill_places on `held` and the length, whatever that is: they
+   answer what they answer on the whole payload, however it was cut. For this the room has to have
+   998 bytes, one more than are ever held: a length of 998 is refused under 2, whatever lies there. A
+   smaller room is never written past its end: a bit that does not fit in it is answered with 998
+   too, and with that length such a room must not be read. */
+#define QRBILL_HELD 998
+
+size_t qrbill_hand(uint8_t *held, size_t room, size_t length, const uint8_t *bit, size_t bytes);
 
 /* The Austrian girocode (EPC QR code): the same four calls for a payload that begins with BCD. It has
    7 to 12 lines and at most 331 bytes; a list has 24 numbers, start and length of each of 12 lines.

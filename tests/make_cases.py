@@ -1,9 +1,10 @@
 """Make the records that the program `cases` is run on, and what it has to write for each.
 
 R and a payload: those of all cases, in their order, and runs of characters and breaks. W and a call of
-the writer: those of tests/writer_calls.py. What is to be written is the reference's answer with the
-byte's place, and of a payload what a viewer hands out. Of a payload only the first 2,000 bytes are
-stored: past 997 it does not matter how many there are.
+the writer: those of tests/writer_calls.py. S and a payload that comes in bits: a few bills, each cut in
+several ways. What is to be written is the reference's answer with the byte's place, and of a payload
+what a viewer hands out, or of one in bits the list. Of a payload only the first 2,000 bytes are stored:
+past 997 it does not matter how many there are.
 
 With `--check` it writes no file: it compares the stored files with what it would make, once for each
 record. It prints a line for each failure and at the end `N passed, M failed`.
@@ -16,6 +17,7 @@ from pathlib import Path
 from casefile import read_cases
 from framing import framed, number, records
 from reference.qrbill import BREAKS, Accepted, Refused, read, write
+from scanning import LONGEST, OVER, PAYLOADS, cut
 from telling import told
 from text_payloads import runs
 from writer_calls import calls
@@ -26,6 +28,11 @@ MOST_STORED = 2000  # bytes of a payload
 MOST_RECORD = 65536  # bytes of a record that the program can hold
 MOST_NUMBERS, MOST_ROOM = 104, 1200  # of a list and of a destination, in the program
 NUMBER_BYTES = 2
+SCANNED = (
+    'base-lf', 'base-crlf', 'bill-f-crlf', '2.4-section-6.2-997-bytes', 'no-bytes',
+    '2.4-table-8-line-1-other-type', 'message-of-137-with-billing-text',
+)
+SCANNED_NUMBERS = 128  # of the list that the scanner is lent
 DONE = b'.0:'  # what is written of a viewer that is done: an empty part
 
 
@@ -70,6 +77,23 @@ def writing(call):
     return framed(b'W' + numbers + call.text), line
 
 
+def scanning(bits):
+    """The record of a payload in bits, and what is to be written of it."""
+    payload = b''.join(bits)
+    answer = read(payload)
+    told_line = answer_line(answer, lambda some: (some.lines, kind_of(some.brk)))
+    places = answer.places if isinstance(answer, Accepted) else []
+    numbers = places + (SCANNED_NUMBERS - len(places)) * [0]
+    sizes = b''.join(number(value, NUMBER_BYTES) for value in [len(bits), *map(len, bits)])
+    return framed(b'S' + sizes + payload), told_line + b''.join(b'%d ' % one for one in numbers) + b'\n'
+
+
+def scans():
+    """The payloads that come in bits, each cut in several ways."""
+    for payload in [*(PAYLOADS[name] for name in SCANNED), OVER, OVER + LONGEST]:
+        yield from cut(payload, (1, 7, 64, 997))
+
+
 def make():
     """For each record a name, and the record with what is to be written."""
     for case in read_cases():
@@ -78,11 +102,13 @@ def make():
         yield f'run {place}', reading(run)
     for place, call in enumerate(calls(), start=1):
         yield f'call {place}', writing(call)
+    for place, bits in enumerate(scans(), start=1):
+        yield f'scan {place}', scanning(bits)
 
 
 def kept(stdin, stdout):
-    """Each stored record with what is stored as written of it: two lines for R, else one. What a
-    viewer hands out may hold a break, so a part of it is passed by its length."""
+    """Each stored record with what is stored as written of it: two lines for R and for S, else one.
+    What a viewer hands out may hold a break, so a part of it is passed by its length."""
     at = 0
     for record in records(stdin):
         end = stdout.find(b'\n', at) + 1
@@ -91,6 +117,8 @@ def kept(stdin, stdout):
                 colon = stdout.index(b':', end)
                 end = colon + 1 + int(stdout[end + 1:colon])
             end += 1
+        if record[4:5] == b'S':
+            end = stdout.find(b'\n', end) + 1
         yield record, stdout[at:end]
         at = end
     if at < len(stdout):

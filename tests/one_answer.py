@@ -25,10 +25,11 @@ PUBLIC_FUNCTION = re.compile(r'^ *pub (?:[\w"]+ )*fn (\w+)(.*?)^ *(?:[{}]|$)',
                              re.MULTILINE | re.DOTALL)
 ENSURES = re.compile(r'^ *ensures\b', re.MULTILINE)
 THEOREM = re.compile(r'^pub (one-\S+) :(.*?)^\S', re.MULTILINE | re.DOTALL)
-NAMED_FUNCTION = re.compile(r'\bfn\.(\w+)\.')
+METHOD_OF = r'(?:[A-Z]\w*\.)?'  # the type of a method stands before its name
+NAMED_FUNCTION = re.compile(rf'\bfn\.{METHOD_OF}(\w+)\.')
 NAME = re.compile(r'`([^`]+)`')
 NAMED_PROGRAM = re.compile(r'`(\w+)/(\w+)`')
-NAMED_CONTRACT = re.compile(r'\bfn\.(\w+)\.(?:Reads\.Learnt|clauses)\b')
+NAMED_CONTRACT = re.compile(rf'\bfn\.{METHOD_OF}(\w+)\.(?:Reads\.Learnt|clauses)\b')
 
 # Functions that are proved by hand: their theorems take a reading of the contract that stands in the
 # same file, which shows that the contract says just that.
@@ -100,8 +101,8 @@ def is_of_form(function, statement):
     key = function.crate, function.name
     if key in PARTS:
         return True
-    reading = r'\w+' if key in OWN_READINGS else rf'fn\.{function.name}\.Reads\.Learnt'
-    form = rf'\s*OneAnswer fn\.{function.name}\.ended {reading}\s*'
+    reading = r'\w+' if key in OWN_READINGS else rf'fn\.{METHOD_OF}{function.name}\.Reads\.Learnt'
+    form = rf'\s*OneAnswer fn\.{METHOD_OF}{function.name}\.ended {reading}\s*'
     return re.fullmatch(form, statement) is not None
 
 

@@ -14,6 +14,8 @@
                                     payload, `outside` is one that begins past the buffer
     fields(PAYLOAD, ROOM)           SWIFT fields in so many bytes: their length, the lines of each, how many
                                     characters were cut and how many replaced
+    hand_over(ROOM, LENGTH, BIT)    a bit handed over in a room of so many bytes, of which so many are held
+    scan(BIT, .., NUMBERS)          a payload in bits by value, closed with a list of so many numbers
     remainder97(TEXT)               the remainder by 97 of a text, its first four characters moved
     remainder_after(NUMBER, TEXT)   that of a number with a text more
     checks97(TEXT)                  whether check digits are right
@@ -43,6 +45,7 @@ from reference.glance import glance
 from reference.numbers import made
 from reference.pile import piled
 from reference.swift import COUNTS, Fields, fields
+from reference.scanner import handed
 
 QUESTION = re.compile(r'(\w+)\((.*)\)')
 PAYLOAD = re.compile(r'case (?P<name>\S+)(?: with (?P<line>[0-9]+): (?P<text>.*))?')
@@ -256,6 +259,22 @@ def mapping(which, payload, room, numbers=None):
         told = spoken(qrbill, answer)
     right = told + shown_bytes(answer.data if laid else b'', room)
     return asked(which, [room, lent], [payload], right)
+def handing(which, room, length, bit):
+    """A bit handed over in a room that is lent."""
+    room, length, bit = int(room), int(length), text_of(bit)
+    held, now = handed(room * BYTE, length, bit)
+    return asked(which, [room, length], [bit], b'%d' % now + shown_bytes(held, room))
+
+
+def scanning(*words):
+    """A payload in bits, by value."""
+    *bits, room = words
+    bits, room = [text_of(bit) for bit in bits], int(room)
+    answer = qrbill.read(b''.join(bits), room)
+    places = answer.places if isinstance(answer, qrbill.Accepted) else []
+    sizes = struct.pack(f'<{len(bits)}I', *map(len, bits))
+    return asked(b'k', [room], [b''.join(bits), sizes],
+                 spoken(qrbill, answer) + shown_list(places, room))
 
 
 def remainder_of(which, text):
@@ -292,6 +311,7 @@ ASKERS = {
     'qrbill_make_iban': partial(making, b'I', 'iban', packed),
     'pile': partial(piling, b'p', False), 'qrbill_pile': partial(piling, b'P', True),
     'fields': partial(mapping, b'f'), 'qrbill_swift': partial(mapping, b'F'),
+    'hand_over': partial(handing, b'o'), 'qrbill_hand': partial(handing, b'O'), 'scan': scanning,
     'remainder_after': partial(remainder_after, b'1'),
     'remainder_after_by_table': partial(remainder_after, b'2'),
     'remainder97': partial(remainder_of, b'3'), 'remainder97_by_table': partial(remainder_of, b'4'),

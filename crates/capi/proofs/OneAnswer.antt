@@ -1,6 +1,7 @@
 -- The contract of each public function leaves one answer. Assumes nothing.
 use mathlib.Core.Path.{refl, sym, ap, ap₂, _∙_}
 use Rattle.sieve.specs.OneAnswer.{OneAnswer}
+use Rattle.scanner.specs.declared.Scan.{Scan}
 use Rattle.capi.proofs as fn
 
 pub one-qrbill-read : OneAnswer fn.qrbill_read.ended fn.qrbill_read.Reads.Learnt
@@ -36,3 +37,7 @@ one-qrbill-pile κs a x y v w h k = (h .number ∙ sym (k .number), ap (λ d. (t
 -- the destination and the list at exit too
 pub one-qrbill-swift : OneAnswer fn.qrbill_swift.ended fn.qrbill_swift.Reads.Learnt
 one-qrbill-swift κs a x y v w h k = (h .number ∙ sym (k .number), ap₂ (λ d l. (tt, (d, (l, tt)))) (h .lent ∙ sym (k .lent)) (h .told ∙ sym (k .told)))
+
+-- the room at exit too
+pub one-qrbill-hand : OneAnswer fn.qrbill_hand.ended fn.qrbill_hand.Reads.Learnt
+one-qrbill-hand κs a x y v w h k = let e = h ∙ sym k in (ap (λ (t : Scan). t .len) e, ap (λ (t : Scan). (t .bytes, (tt, (tt, tt)))) e)

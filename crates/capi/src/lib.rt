@@ -1,5 +1,5 @@
 // Calls for C: the verdict on a payload and the place of a line as one number each, the list of places, the account at a
-// glance, the writer, numbers of our own, a pile of bills, and SWIFT fields.
+// glance, the writer, numbers of our own, a pile of bills, SWIFT fields, and a payload that comes in bits.
 use glance::Account;
 use glance::glance;
 use numbers::make_iban;
@@ -18,6 +18,7 @@ use pile::Piled;
 use pile::pile;
 use reader::read;
 use runs::fill;
+use scanner::hand_over;
 use swift::Counts;
 use swift::Mapped;
 use swift::fields;
@@ -35,6 +36,7 @@ ghost use Rattle.numbers.specs.Made.{qrrPart, madeQrr, scorPart, madeScor, iban
 ghost use Rattle.capi.specs.Calls.{packedAccount, IsPackedMade, IsPackedPiled};
 ghost use Rattle.capi.specs.Calls.{toldCounts, IsPackedFields};
 ghost use Rattle.swift.specs.Promised.{AreSmall};
+ghost use Rattle.scanner.specs.Scanning.{heldIn, handed};
 
 // The line count of an accepted payload; of a refused one 1000 times the refusal plus the line.
 #[no_mangle]
@@ -170,4 +172,14 @@ pub extern "C" fn qrbill_swift(payload: &[u8], dest: &mut [u8], list: &mut [u16]
             counts.bytes as u32
         }
     }
+}
+
+// How many bytes of a room are held once a bit is put behind those that were; 998 where they are too many, and then no
+// byte has changed.
+#[no_mangle]
+pub extern "C" fn qrbill_hand(held: &mut [u8], length: usize, bit: &[u8]) -> usize
+    ensures { λ r.
+        ⌜ heldIn (now (held .exit)) r ≡ handed (heldIn (now (held .entry)) length) (now (bit .entry)) ⌝ }
+{
+    hand_over(held, length, bit)
 }

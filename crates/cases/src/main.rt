@@ -1,22 +1,27 @@
-// Runs the reader, the viewer and the writer over the records on standard input, and writes what no call for C tells:
-// the byte that a refusal points at, and what a viewer hands out. (Lists and destinations are compared from C.)
-// A record is four bytes of length, the lowest first, and that many bytes, at most 65,536: a letter, R or W, and what it
-// is about. For R and a payload a line has a refusal's number, line and place, or 0, the line count and the kind of break,
+// Runs the reader, the viewer, the writer and the scanner over the records on standard input, and writes what no call for
+// C tells: the byte that a refusal points at, what a viewer hands out, and what a scanner whose state goes by value
+// answers. (Lists and destinations are compared from C, but for the scanner's.)
+// A record is four bytes of length, the lowest first, and that many bytes, at most 65,536: a letter, R, W or S, and what
+// it is about. For R and a payload a line has a refusal's number, line and place, or 0, the line count and the kind of break,
 // 1 for LF and 2 for CR LF. A second line has what a viewer of the payload hands out, opened anew and moved on 0, 1, 2, ..
 // times: `+` where it is not done and `.` where it is, the length of the part that it hands out, a colon, and the part. It
 // ends one move after the viewer is done, and with what it hands out after a million moves. For W and a call of the writer
 // a line has a refusal's number, line and place, or 0, the length and 0. The call is given two bytes to a number, the low
 // one first: the count of lines, the break (1 for LF, 2 for CR LF), how many bytes the destination has, how many numbers
-// the list has, and those numbers. The rest of the record is the text.
+// the list has, and those numbers. The rest of the record is the text. For S and a payload that comes in bits a line has
+// what the scanner answers at the close, as for R, and a second line the numbers of the list that it was lent, 128 zeros
+// before. How many bits there are is given in two bytes, and then the length of each; the rest of the record is the
+// payload.
 use libc::STDIN_FILENO;
 use libc::STDOUT_FILENO;
+use scanner::Scan;
 use sieve::Answer;
 use sieve::Break;
 use sieve::Fault;
 use sieve::Written;
 use sieve::line_of;
 use sieve::number_of;
-ghost use Prim.Native.Nat.{_<_};
+ghost use Prim.Native.Nat.{_≤_, _<_};
 
 fn write_told(number: usize, line: usize, place: usize) {
     io::print_decimal(STDOUT_FILENO, number as u64);
@@ -168,14 +173,65 @@ fn run_writing(call: &[u8]) {
     run_call(call, &mut list, &mut dest);
 }
 
+fn at_most(size: usize, most: usize) -> usize
+    ensures { λ r. ⌜ r ≤ most ⌝ }
+{
+    if most < size { most } else { size }
+}
+
+// Hands over a payload, in bits as long as the numbers say.
+fn scanned(sizes: &[u8], payload: &[u8]) -> Scan {
+    let mut scan = Scan::begin();
+    let mut at = 0;
+    let mut i = 0;
+    while i < sizes.len() / 2 {
+        let to = at + at_most(number(sizes, i) as usize, payload.len() - at);
+        scan = scan.hand(&payload[at..to]);
+        at = to;
+        i += 1;
+    }
+    scan
+}
+
+fn write_number(n: u16) {
+    io::print_decimal(STDOUT_FILENO, n as u64);
+    io::write_all(STDOUT_FILENO, b" ");
+}
+
+fn write_list(list: &[u16]) {
+    let mut i = 0;
+    while i < list.len() {
+        write_number(list[i]);
+        i += 1;
+    }
+    io::write_all(STDOUT_FILENO, b"\n");
+}
+
+// A record that is cut off is not scanned.
+fn run_scanning(record: &[u8]) {
+    if record.len() < 2 {
+        return;
+    }
+    let end = 2 + 2 * pair(record[0], record[1]);
+    if record.len() < end {
+        return;
+    }
+    let mut list = [0u16; 128];
+    let scan = scanned(&record[2..end], &record[end..]);
+    write_answer(scan.close(&mut list));
+    write_list(&list);
+}
+
 fn run(record: &[u8]) {
     if record.len() == 0 {
         return;
     }
     if record[0] == b'R' {
         run_reading(&record[1..]);
-    } else {
+    } else if record[0] == b'W' {
         run_writing(&record[1..]);
+    } else {
+        run_scanning(&record[1..]);
     }
 }
 
