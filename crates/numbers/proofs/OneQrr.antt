@@ -30,7 +30,7 @@ one-digit s l =
     check-of d = rw (getD-at s d [] 0 26 l, take-at s (d ∷ []) 26 l)
 
 -- 27 bytes are 26 and one more
-last-apart : (t : Bytes) → length t ≡ 27 → t ≡ take 26 t ++ (getD t 26 0 ∷ [])
+pub last-apart : (t : Bytes) → length t ≡ 27 → t ≡ take 26 t ++ (getD t 26 0 ∷ [])
 last-apart t l = sym (take-all 27 t (omega arith)) ∙ take-suc t 26 0 (omega arith)
 
 -- a digit after 26 digits that are not all zero
@@ -58,7 +58,7 @@ one-qrr s f =
     record { has = (take-at s (checkDigit s ∷ []) 26 l, qrr-ended s (checkDigit s) f e, c); alone = qrr-ends s }
 
 -- zeros carry nothing
-zeros-carry : (s : Bytes) → zeros s ≡ true → carry 0 s ≡ 0
+pub zeros-carry : (s : Bytes) → zeros s ≡ true → carry 0 s ≡ 0
 unfolding carry
 zeros-carry [] e = refl
 zeros-carry (x ∷ s) e =

@@ -36,7 +36,7 @@ in-run lo (suc n) x = go (eqb x lo) refl (in-run (suc lo) n x)
     go false e more = (λ h. let i = more .0 h in (omega arith, omega arith), λ h. more .1 (omega (arith, eqb-false x lo e), omega arith))
 
 -- tests that pass alike are equal
-alike : (a b : Bool) → (a ≡ true) ↔ (b ≡ true) → a ≡ b
+pub alike : (a b : Bool) → (a ≡ true) ↔ (b ≡ true) → a ≡ b
 alike true b h = sym (h .0 refl)
 alike false true h = h .1 refl
 alike false false h = refl

@@ -1,7 +1,7 @@
--- A test of every number below a limit, computed once, holds for each. Assumes nothing.
+-- A test of every number below a limit, computed once, holds for each; so do two tests that agree. Assumes nothing.
 use Prim.Native.Nat.{ℕ, zero, suc, _<_}
 use native.Mathlib.Omega.{arith}
-use mathlib.Core.Bool.{Bool, true, false, _&&_, and-eq-true-iff}
+use mathlib.Core.Bool.{Bool, true, false, false≢true, Bool·beq, _&&_, and-eq-true-iff}
 use mathlib.Core.Path.{_≡_, refl}
 use lib.Dec.{eqb}
 use borrow.Author.Tests.{eqb-true, eqb-false}
@@ -18,3 +18,12 @@ each-of f (suc n) h i k = go (eqb i n) refl (and-eq-true-iff (f n) (below f n) .
     go : (b : Bool) → eqb i n ≡ b → (f n ≡ true) × (below f n ≡ true) → (below f n ≡ true → (i : ℕ) → i < n → f i ≡ true) → f i ≡ true
     go true e (here, rest) more = rw (eqb-true i n e) here
     go false e (here, rest) more = more rest i (omega (arith, eqb-false i n e))
+
+equal : (a b : Bool) → Bool·beq a b ≡ true → a ≡ b
+equal true true e = refl
+equal true false e = absurd (false≢true e)
+equal false true e = absurd (false≢true e)
+equal false false e = refl
+
+pub agree : (f g : ℕ → Bool) (n : ℕ) → below (λ x. Bool·beq (f x) (g x)) n ≡ true → (i : ℕ) → i < n → f i ≡ g i
+agree f g n h i k = equal (f i) (g i) (each-of (λ x. Bool·beq (f x) (g x)) n h i k)

@@ -1,12 +1,12 @@
 -- `swift::in_x` meets its contract: the bits are those of the set, computed over all bytes. Assumes nothing.
 use Prim.Native.Nat.{ℕ, _/_, _%_, _^_, _<_}
-use mathlib.Core.Bool.{Bool, true, false, true≢false, cond}
+use mathlib.Core.Bool.{Bool, true, Bool·beq, cond}
 use mathlib.Core.Logic.{⊎-elim}
-use mathlib.Core.Path.{_≡_, refl, sym, _∙_}
+use mathlib.Core.Path.{_≡_, refl, _∙_}
 use lib.Dec.{eqb, ltb}
 use borrow.Author.Needs.{needs}
 use borrow.Author.Tests.{lt-ltb, le-ltb}
-use Rattle.sieve.proofs.Below.{below, each-of}
+use Rattle.sieve.proofs.Below.{below, agree}
 use Rattle.swift.specs.Letters.{inX}
 use Rattle.swift.proofs.in_x.Statement.{statement}
 use Rattle.swift.proofs.in_x.Tie as tie
@@ -21,21 +21,12 @@ setOf x = cond (ltb x 64) 0x87FFFB8100000000 (cond (ltb x 128) 0x7FFFFFE07FFFFFE
 abbrev tested : ℕ → Bool
 tested x = bit (setOf x) (x % 64)
 
-abbrev alike : Bool → Bool → Bool
-alike true b = b
-alike false b = cond b false true
-
-alike-is : (a b : Bool) → alike a b ≡ true → a ≡ b
-alike-is true b h = sym h
-alike-is false true h = absurd (true≢false (sym h))
-alike-is false false h = refl
-
-all-bits : below (λ x. alike (tested x) (inX x)) 256 ≡ true
+all-bits : below (λ x. Bool·beq (tested x) (inX x)) 256 ≡ true
 unfolding inX
 all-bits = refl
 
 each-bit : (x : ℕ) → x < 256 → tested x ≡ inX x
-each-bit x h = alike-is (tested x) (inX x) (each-of (λ y. alike (tested y) (inX y)) 256 all-bits x h)
+each-bit = agree tested inX 256 all-bits
 
 cast-result : tie.Need-cast-result
 cast-result c = search needs
