@@ -354,7 +354,8 @@ fn lay_reference(
 fn lay_text(buffer: &mut [u8], page: Page, prefix: &[u8], text: &[u8]) -> Page
     requires { ⌜ Open (now buffer) page 1 × (length (now prefix) ≤ 1024) × (length (now text) ≤ 1024) ⌝ }
     ensures { λ r.
-        ⌜ IsFollowed (now (buffer .entry)) page 1 (onLines 1 (now (prefix .entry) ++ now (text .entry)) ∷ []) (now (buffer .exit)) r ⌝ }
+        ⌜ IsFollowed (now (buffer .entry)) page 1 (onLines 1 (now (prefix .entry) ++ now (text .entry)) ∷ [])
+        (now (buffer .exit)) r ⌝ }
 {
     let line = prefixed_line(prefix, text);
     lay_line(buffer, page, line)
