@@ -227,14 +227,14 @@ def stretch(dice, lines, number, length):
 
 # The payloads.
 
-def damaged(seed, count):
+def damaged(seed, count, bills=tuple(BILLS), damages=DAMAGES):
     """So many damaged bills; the same for the same seed."""
     dice = Dice(seed)
     for _ in range(count):
-        payload = dice.pick(BILLS)
+        payload = dice.pick(bills)
         for _ in range(1 + dice.below(3)):
             if payload:
-                payload = dice.pick(DAMAGES)(dice, payload)
+                payload = dice.pick(damages)(dice, payload)
         yield payload
 
 

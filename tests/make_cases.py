@@ -1,5 +1,6 @@
 """Make the records that the program `cases` is run on, and what it has to write for each.
 
+A capital letter is for edition 2.4, a small one for 2.2, of which a viewer hands out nothing.
 R and a payload: those of all cases, in their order, and runs of characters and breaks. W and a call of
 the writer: those of tests/writer_calls.py. S and a payload that comes in bits: a few bills, each cut in
 several ways. What is to be written is the reference's answer with the byte's place, and of a payload
@@ -68,24 +69,30 @@ def reading(payload):
     return framed(b'R' + payload), told_line + view_line(payload, answer)
 
 
-def writing(call):
+def older_reading(payload):
+    """The same under edition 2.2."""
+    answer = read(payload, edition='2.2')
+    return framed(b'r' + payload), answer_line(answer, lambda some: (some.lines, kind_of(some.brk)))
+
+
+def writing(call, letter=b'W', edition='2.4'):
     """The record of a call of the writer, and what is to be written of it."""
     head = [call.count, kind_of(call.brk), call.room, len(call.places)]
     numbers = b''.join(number(value, NUMBER_BYTES) for value in head + call.places)
-    answer = write(call.text, call.places, call.count, call.brk, call.room)
+    answer = write(call.text, call.places, call.count, call.brk, call.room, edition)
     line = answer_line(answer, lambda some: (len(some.data), 0))
-    return framed(b'W' + numbers + call.text), line
+    return framed(letter + numbers + call.text), line
 
 
-def scanning(bits):
+def scanning(bits, letter=b'S', edition='2.4'):
     """The record of a payload in bits, and what is to be written of it."""
     payload = b''.join(bits)
-    answer = read(payload)
+    answer = read(payload, edition=edition)
     told_line = answer_line(answer, lambda some: (some.lines, kind_of(some.brk)))
     places = answer.places if isinstance(answer, Accepted) else []
     numbers = places + (SCANNED_NUMBERS - len(places)) * [0]
     sizes = b''.join(number(value, NUMBER_BYTES) for value in [len(bits), *map(len, bits)])
-    return framed(b'S' + sizes + payload), told_line + b''.join(b'%d ' % one for one in numbers) + b'\n'
+    return framed(letter + sizes + payload), told_line + b''.join(b'%d ' % one for one in numbers) + b'\n'
 
 
 def scans():
@@ -104,6 +111,12 @@ def make():
         yield f'call {place}', writing(call)
     for place, bits in enumerate(scans(), start=1):
         yield f'scan {place}', scanning(bits)
+    for case in read_cases():
+        yield f'{case.name}, 2.2', older_reading(case.payload[:MOST_STORED])
+    for place, call in enumerate(calls(), start=1):
+        yield f'call {place}, 2.2', writing(call, b'w', '2.2')
+    for place, bits in enumerate(scans(), start=1):
+        yield f'scan {place}, 2.2', scanning(bits, b's', '2.2')
 
 
 def kept(stdin, stdout):
@@ -117,7 +130,7 @@ def kept(stdin, stdout):
                 colon = stdout.index(b':', end)
                 end = colon + 1 + int(stdout[end + 1:colon])
             end += 1
-        if record[4:5] == b'S':
+        if record[4:5] in (b'S', b's'):
             end = stdout.find(b'\n', end) + 1
         yield record, stdout[at:end]
         at = end

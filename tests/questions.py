@@ -20,7 +20,8 @@
     remainder_after(NUMBER, TEXT)   that of a number with a text more
     checks97(TEXT)                  whether check digits are right
 
-`giro_read` and `giro_write` are the girocode's, `.._by_table` are remainders by the table. The calls
+`read_22` and `fields_22` are of edition 2.2, all others of 2.4. `giro_read` and `giro_write` are the
+girocode's, `.._by_table` are remainders by the table. The calls
 for C are asked by their own names: `qrbill_places` and `girocode_places` as `read`, `qrbill_read` and
 `girocode_read` with a payload alone, `qrbill_line` and `girocode_line` with a line's number, and
 `qrbill_swift` as `fields`, with how many numbers are lent for the counts.
@@ -145,10 +146,10 @@ def judging(payload):
     return asked(b'h', [], [payload], spoken(qrbill, answer))
 
 
-def reading(which, layout, told, payload, room):
+def reading(which, layout, told, payload, room, read=None):
     """A reader on a payload."""
     payload, room = text_of(payload), int(room)
-    answer = layout.read(payload, room)
+    answer = (read or layout.read)(payload, room)
     places = answer.places if isinstance(answer, layout.Accepted) else []
     return asked(which, [room], [payload], told(layout, answer) + shown_list(places, room))
 
@@ -243,11 +244,11 @@ def piling(which, for_c, *words):
                  right + shown_list([] if refused else entries, room))
 
 
-def mapping(which, payload, room, numbers=None):
+def mapping(which, payload, room, numbers=None, edition='2.4'):
     """SWIFT fields; for C where so many numbers are lent for the counts."""
     payload, room = text_of(payload), int(room)
     lent = COUNTS if numbers is None else int(numbers)
-    answer = fields(payload, room, lent)
+    answer = fields(payload, room, lent, edition)
     laid = isinstance(answer, Fields)
     counts = [*answer.lines, answer.cut, answer.replaced] if laid else []
     if numbers is not None:
@@ -259,6 +260,8 @@ def mapping(which, payload, room, numbers=None):
         told = spoken(qrbill, answer)
     right = told + shown_bytes(answer.data if laid else b'', room)
     return asked(which, [room, lent], [payload], right)
+
+
 def handing(which, room, length, bit):
     """A bit handed over in a room that is lent."""
     room, length, bit = int(room), int(length), text_of(bit)
@@ -295,7 +298,9 @@ def checking(text):
 
 ASKERS = {
     'qrbill': running, 'whole': judging,
-    'read': partial(reading, b'r', qrbill, spoken), 'giro_read': partial(reading, b'R', girocode, spoken),
+    'read': partial(reading, b'r', qrbill, spoken),
+    'read_22': partial(reading, b'd', qrbill, spoken, read=partial(qrbill.read, edition='2.2')),
+    'giro_read': partial(reading, b'R', girocode, spoken),
     'qrbill_places': partial(reading, b'c', qrbill, packed),
     'girocode_places': partial(reading, b'C', girocode, packed),
     'write': partial(writing, b'w', qrbill, spoken), 'giro_write': partial(writing, b'W', girocode, spoken),
@@ -310,7 +315,8 @@ ASKERS = {
     'make_iban': partial(making, b'i', 'iban', spoken),
     'qrbill_make_iban': partial(making, b'I', 'iban', packed),
     'pile': partial(piling, b'p', False), 'qrbill_pile': partial(piling, b'P', True),
-    'fields': partial(mapping, b'f'), 'qrbill_swift': partial(mapping, b'F'),
+    'fields': partial(mapping, b'f'), 'fields_22': partial(mapping, b'e', edition='2.2'),
+    'qrbill_swift': partial(mapping, b'F'),
     'hand_over': partial(handing, b'o'), 'qrbill_hand': partial(handing, b'O'), 'scan': scanning,
     'remainder_after': partial(remainder_after, b'1'),
     'remainder_after_by_table': partial(remainder_after, b'2'),

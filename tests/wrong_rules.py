@@ -48,6 +48,8 @@ def definitions_alone(copy, layout):
         (crate / 'proofs' / 'Lib.antt').touch()
     leave_out(copy / 'crates/sieve/specs', 'Examples')
     leave_out(copy / 'crates' / layout / 'specs', 'Order')
+    if layout == 'swiss':
+        leave_out(copy / 'crates' / layout / 'specs', 'EditionTable')
     source = copy / 'crates/sieve/src/lib.rt'
     source.write_text(source.read_text('utf-8').partition('\npub fn ')[0] + '\n', 'utf-8')
     tables_alone(copy / 'crates' / layout / 'specs')

@@ -25,7 +25,8 @@ TEXTS = {
 
 # Limits of one line alone. An address begins at line 5 or 21.
 
-ADDRESS = {1: 'nameMost', 2: 'streetMost', 3: 'houseNumberMost', 4: 'postcodeMost', 5: 'townMost'}
+ADDRESS = {1: 'nameMost', 2: 'streetMost', 4: 'postcodeMost', 5: 'townMost'}
+FOURTH = 'atMostOf (λ ls. fourthMost (ofK ls)) (n + 3)'  # a house number, or address line 2
 OTHERS = {30: 'messageMost', 32: 'billingMost', 33: 'procedureMost', 34: 'procedureMost'}
 
 
@@ -36,6 +37,10 @@ def wrong_lines():
             for other in (NUMBERS[name] - 1, NUMBERS[name] + 1):
                 yield Wrong(f'line {first + after} at most {other}', SWISS, f'atMost {name} (n + {after})',
                             f'atMost (cond (lib.Dec.eqb n {first}) {other} {name}) (n + {after})')
+    for first in (5, 21):
+        for other in (15, 17):
+            yield Wrong(f'line {first + 3} at most {other}', SWISS, FOURTH,
+                        f'atMostOf (λ ls. cond (lib.Dec.eqb n {first}) {other} (fourthMost (ofK ls))) (n + 3)')
     for line, name in OTHERS.items():
         for other in (NUMBERS[name] - 1, NUMBERS[name] + 1):
             yield Wrong(f'line {line} at most {other}', SWISS, f'atMost {name} {line}', f'atMost {other} {line}')
@@ -46,17 +51,19 @@ def wrong_lines():
 DROPPED = (
     'fixed 1 qrType ∷ ', 'fixed 2 version ∷ ', 'fixed 3 coding ∷ ',
     'filled 4 always ∷ ', 'formed 4 (has 4 iban) ∷ ', 'checked 4 (has 4 checks97) ∷ ',
-    'filled n (unless absent) ∷ ', 'formed n (is n structured)\n    ∷ ',
-    *(f'empty (n + {after}) absent ∷ ' for after in range(1, 7)),
-    *(f'filled (n + {after}) (unless absent) ∷ ' for after in (1, 4, 5, 6)),
-    *(f'atMost {name} (n + {after})\n    ∷ ' for after, name in ADDRESS.items()),
+    'filled n (unless absent) ∷ ', 'formed n (either ofK (is n structured))\n    ∷ ',
+    *(f'empty (n + {after}) absent ∷ ' for after in (1, 2, 3, 6)),
+    *(f'empty (n + {after}) townless ∷ ' for after in (4, 5)),
+    *(f'filled (n + {after}) (unless absent) ∷ ' for after in (1, 6)),
+    *(f'filled (n + {after}) (unless townless) ∷ ' for after in (4, 5)),
+    *(f'atMost {name} (n + {after})\n    ∷ ' for after, name in ADDRESS.items()), f'{FOURTH}\n    ∷ ',
     'formed (n + 6) (has (n + 6) country)\n    ∷ ',
     *(f'empty {line} always ∷ ' for line in range(12, 19)),
     'atMost amountMost 19 ∷ ', 'formed 19 (has 19 amount)\n    ∷ ', 'filled 20 always ∷ ',
     'filled 28 always ∷ ', 'empty 29 (is 28 noReference) ∷ ', 'formed 29 (under28 qrr scor) ∷ ',
     'atMost messageMost 30 ∷ ', 'fixed 31 trailer ∷ ', 'atMost billingMost 32 ∷ ', 'formed 32 (has 32 billing) ∷ ',
     'filled 33 (isLast 33) ∷ ', 'atMost procedureMost 33 ∷ ', 'filled 34 (isLast 34) ∷ ', 'atMost procedureMost 34 ∷ ',
-    'pairing ∷ ', 'together ∷ ',
+    'pairing e ∷ ', 'together ∷ ',
 )
 
 
@@ -69,22 +76,22 @@ def without_rule():
 # Other rules, conditions and orders of the Swiss bill.
 
 OTHER_RULES = (
-    Wrong('a creditor may be absent', SWISS, 'address 5 never', 'address 5 (isEmpty 5)'),
-    Wrong('a debtor may not be absent', SWISS, 'address 21 (isEmpty 21)', 'address 21 never'),
-    Wrong('a debtor is absent without a name', SWISS, 'address 21 (isEmpty 21)', 'address 21 (isEmpty 22)'),
-    Wrong('a debtor is always absent', SWISS, 'address 21 (isEmpty 21)', 'address 21 always'),
+    Wrong('a creditor may be absent', SWISS, 'address e 5 never', 'address e 5 (isEmpty 5)'),
+    Wrong('a debtor may not be absent', SWISS, 'address e 21 (isEmpty 21)', 'address e 21 never'),
+    Wrong('a debtor is absent without a name', SWISS, 'address e 21 (isEmpty 21)', 'address e 21 (isEmpty 22)'),
+    Wrong('a debtor is always absent', SWISS, 'address e 21 (isEmpty 21)', 'address e 21 always'),
     Wrong('line 23 must be filled', SWISS, 'empty (n + 2) absent ∷ ', 'empty (n + 2) absent ∷ filled (n + 2) (λ ls. is 21 structured ls && lib.Dec.eqb n 21) ∷ '),
     Wrong('line 8 must be filled', SWISS, 'empty (n + 3) absent ∷ ', 'empty (n + 3) absent ∷ filled (n + 3) (unless absent) ∷ '),
     Wrong('line 22 may be empty', SWISS, 'filled (n + 1) (unless absent)', 'filled (n + 1) (λ ls. lib.Dec.eqb n 5)'),
-    Wrong('line 25 may be empty', SWISS, 'filled (n + 4) (unless absent)', 'filled (n + 4) (λ ls. lib.Dec.eqb n 5)'),
-    Wrong('line 9 may be empty', SWISS, 'filled (n + 4) (unless absent)', 'filled (n + 4) (λ ls. not (absent ls) && lib.Dec.eqb n 21)'),
-    Wrong('line 26 may be empty', SWISS, 'filled (n + 5) (unless absent)', 'filled (n + 5) (λ ls. lib.Dec.eqb n 5)'),
+    Wrong('line 25 may be empty', SWISS, 'filled (n + 4) (unless townless)', 'filled (n + 4) (λ ls. lib.Dec.eqb n 5)'),
+    Wrong('line 9 may be empty', SWISS, 'filled (n + 4) (unless townless)', 'filled (n + 4) (λ ls. not (absent ls) && lib.Dec.eqb n 21)'),
+    Wrong('line 26 may be empty', SWISS, 'filled (n + 5) (unless townless)', 'filled (n + 5) (λ ls. lib.Dec.eqb n 5)'),
     Wrong('line 27 may be empty', SWISS, 'filled (n + 6) (unless absent)', 'filled (n + 6) (λ ls. lib.Dec.eqb n 5)'),
     Wrong('line 23 may be filled with no debtor', SWISS, 'empty (n + 2) absent', 'empty (n + 2) never'),
     Wrong('line 16 may be filled', SWISS, 'empty 16 always', 'empty 15 always'),
     Wrong('line 18 may be filled', SWISS, 'empty 18 always', 'empty 17 always'),
     Wrong('a town as long as a name', SWISS, 'atMost townMost (n + 5)', 'atMost nameMost (n + 5)'),
-    Wrong('type K of the debtor', SWISS, 'formed n (is n structured)', 'formed n (λ ls. is n structured ls || (is n "K" ls && lib.Dec.eqb n 21))'),
+    Wrong('type K of the debtor', SWISS, 'formed n (either ofK (is n structured))', 'formed n (λ ls. is n structured ls || (is n "K" ls && lib.Dec.eqb n 21))'),
     Wrong('no form for the debtor country', SWISS, 'formed (n + 6) (has (n + 6) country)', 'formed (n + 6) (λ ls. lib.Dec.eqb n 21 || has (n + 6) country ls)'),
     Wrong('an amount must be there', SWISS, 'atMost amountMost 19 ∷', 'filled 19 always ∷ atMost amountMost 19 ∷'),
     Wrong('only CHF', SWISS, 'is 20 francs ls || is 20 euros ls', 'is 20 francs ls'),
@@ -114,10 +121,10 @@ OTHER_RULES = (
     Wrong('the form of billing information asked of line 33', SWISS, 'formed 32 (has 32 billing)', 'formed 33 (has 33 billing)'),
     Wrong('a procedure in the form of billing information', SWISS, 'filled 34 (isLast 34)', 'formed 33 (has 33 billing) ∷ filled 34 (isLast 34)'),
     # the pairing
-    Wrong('QRR with any IBAN', SWISS, '(qrIban account && same currency (ascii francs))', '(same currency (ascii francs))'),
-    Wrong('QRR in any currency', SWISS, '(qrIban account && same currency (ascii francs))', '(qrIban account)'),
+    Wrong('QRR with any IBAN', SWISS, '(qrIban account && (permitsQrrInEuros e || same currency (ascii francs)))', '(same currency (ascii francs))'),
+    Wrong('QRR in any currency', SWISS, '(qrIban account && (permitsQrrInEuros e || same currency (ascii francs)))', '(qrIban account)'),
     Wrong('QRR in EUR', SWISS, 'same currency (ascii francs)', 'same currency (ascii euros)'),
-    Wrong('a QR-IBAN or CHF', SWISS, 'qrIban account && same currency', 'qrIban account || same currency'),
+    Wrong('a QR-IBAN or CHF', SWISS, 'qrIban account && (permitsQrrInEuros e ||', 'qrIban account || (permitsQrrInEuros e ||'),
     Wrong('a QR-IBAN without QRR', SWISS, '(not (qrIban account))', 'true'),
     Wrong('a QR-IBAN with NON', SWISS, '(not (qrIban account))', '(not (qrIban account) || same kind (ascii noReference))'),
     Wrong('a QR-IBAN with SCOR', SWISS, '(not (qrIban account))', '(not (qrIban account) || same kind (ascii creditorReference))'),
@@ -141,20 +148,20 @@ OTHER_RULES = (
     Wrong('line 3 before 2', SWISS, 'fixed 2 version ∷ fixed 3 coding', 'fixed 3 coding ∷ fixed 2 version'),
     Wrong('lines 4 before 1 to 3', SWISS, '(header\n    ∷ account\n', '(account\n    ∷ header\n'),
     Wrong('11 before 10 on line 4', SWISS, 'formed 4 (has 4 iban) ∷ checked 4 (has 4 checks97)', 'checked 4 (has 4 checks97) ∷ formed 4 (has 4 iban)'),
-    Wrong('lines 5 to 11 before 4', SWISS, '∷ account\n    ∷ address 5 never\n', '∷ address 5 never\n    ∷ account\n'),
-    Wrong('lines 12 to 18 before 5 to 11', SWISS, '∷ address 5 never\n    ∷ reserved\n', '∷ reserved\n    ∷ address 5 never\n'),
+    Wrong('lines 5 to 11 before 4', SWISS, '∷ account\n    ∷ address e 5 never\n', '∷ address e 5 never\n    ∷ account\n'),
+    Wrong('lines 12 to 18 before 5 to 11', SWISS, '∷ address e 5 never\n    ∷ reserved\n', '∷ reserved\n    ∷ address e 5 never\n'),
     Wrong('lines 19 and 20 before 12 to 18', SWISS, '∷ reserved\n    ∷ payment\n', '∷ payment\n    ∷ reserved\n'),
-    Wrong('lines 21 to 27 before 19 and 20', SWISS, '∷ payment\n    ∷ address 21 (isEmpty 21)\n', '∷ address 21 (isEmpty 21)\n    ∷ payment\n'),
-    Wrong('lines 28 and 29 before 21 to 27', SWISS, '∷ address 21 (isEmpty 21)\n    ∷ reference\n', '∷ reference\n    ∷ address 21 (isEmpty 21)\n'),
+    Wrong('lines 21 to 27 before 19 and 20', SWISS, '∷ payment\n    ∷ address e 21 (isEmpty 21)\n', '∷ address e 21 (isEmpty 21)\n    ∷ payment\n'),
+    Wrong('lines 28 and 29 before 21 to 27', SWISS, '∷ address e 21 (isEmpty 21)\n    ∷ reference\n', '∷ reference\n    ∷ address e 21 (isEmpty 21)\n'),
     Wrong('lines 30 to 32 before 28 and 29', SWISS, '∷ reference\n    ∷ information\n', '∷ information\n    ∷ reference\n'),
     Wrong('lines 33 and 34 before 30 to 32', SWISS, '∷ information\n    ∷ procedures\n', '∷ procedures\n    ∷ information\n'),
-    Wrong('the pairing before lines 33 and 34', SWISS, '∷ procedures\n    ∷ (pairing ∷ together ∷ [])\n', '∷ (pairing ∷ together ∷ [])\n    ∷ procedures\n'),
-    Wrong('13 before 12', SWISS, 'pairing ∷ together', 'together ∷ pairing'),
+    Wrong('the pairing before lines 33 and 34', SWISS, '∷ procedures\n    ∷ (pairing e ∷ together ∷ [])\n', '∷ (pairing e ∷ together ∷ [])\n    ∷ procedures\n'),
+    Wrong('13 before 12', SWISS, 'pairing e ∷ together', 'together ∷ pairing e'),
     Wrong('9 before 7 on lines 6 and 22', SWISS, 'empty (n + 1) absent ∷ filled (n + 1) (unless absent) ∷ atMost nameMost (n + 1)', 'atMost nameMost (n + 1) ∷ empty (n + 1) absent ∷ filled (n + 1) (unless absent)'),
     Wrong('9 before 7 on lines 7 and 23', SWISS, 'empty (n + 2) absent ∷ atMost streetMost (n + 2)', 'atMost streetMost (n + 2) ∷ empty (n + 2) absent'),
-    Wrong('9 before 7 on lines 8 and 24', SWISS, 'empty (n + 3) absent ∷ atMost houseNumberMost (n + 3)', 'atMost houseNumberMost (n + 3) ∷ empty (n + 3) absent'),
+    Wrong('9 before 7 on lines 8 and 24', SWISS, 'empty (n + 3) absent ∷ filled (n + 3) ofK ∷ atMostOf (λ ls. fourthMost (ofK ls)) (n + 3)', 'atMostOf (λ ls. fourthMost (ofK ls)) (n + 3) ∷ empty (n + 3) absent ∷ filled (n + 3) ofK'),
     Wrong('10 before 7 on lines 11 and 27', SWISS, 'empty (n + 6) absent ∷ filled (n + 6) (unless absent) ∷ formed (n + 6) (has (n + 6) country)', 'formed (n + 6) (has (n + 6) country) ∷ empty (n + 6) absent ∷ filled (n + 6) (unless absent)'),
-    Wrong('lines 8 and 24 before 7 and 23', SWISS, 'empty (n + 2) absent ∷ atMost streetMost (n + 2)\n    ∷ empty (n + 3) absent ∷ atMost houseNumberMost (n + 3)', 'empty (n + 3) absent ∷ atMost houseNumberMost (n + 3)\n    ∷ empty (n + 2) absent ∷ atMost streetMost (n + 2)'),
+    Wrong('lines 8 and 24 before 7 and 23', SWISS, 'empty (n + 2) absent ∷ atMost streetMost (n + 2)\n    ∷ empty (n + 3) absent ∷ filled (n + 3) ofK ∷ atMostOf (λ ls. fourthMost (ofK ls)) (n + 3)', 'empty (n + 3) absent ∷ filled (n + 3) ofK ∷ atMostOf (λ ls. fourthMost (ofK ls)) (n + 3)\n    ∷ empty (n + 2) absent ∷ atMost streetMost (n + 2)'),
     Wrong('line 14 before 13', SWISS, 'empty 13 always ∷ empty 14 always', 'empty 14 always ∷ empty 13 always'),
     Wrong('line 18 before 17', SWISS, 'empty 17 always ∷ empty 18 always', 'empty 18 always ∷ empty 17 always'),
     Wrong('10 before 9 on line 19', SWISS, 'atMost amountMost 19 ∷ formed 19 (has 19 amount)', 'formed 19 (has 19 amount) ∷ atMost amountMost 19'),

@@ -33,8 +33,12 @@ def is_replaced(row, at):
 
 def beneficiary(line):
     """59a: texts, and how many rows each may fill."""
-    street = ' '.join(part for part in (line[7], line[8]) if part)
     yield '/' + line[4], 1
+    if line[5] == 'K':
+        for number in (6, 7, 8, 11):
+            yield line[number], 1
+        return
+    street = ' '.join(part for part in (line[7], line[8]) if part)
     yield '1/' + line[6], 1
     if street:
         yield '2/' + street, 1
@@ -50,9 +54,9 @@ def remittance(line):
         yield line[30], 3
 
 
-def fields(payload: bytes, room: int, numbers: int = COUNTS):
+def fields(payload: bytes, room: int, numbers: int = COUNTS, edition: str = '2.4'):
     """The fields, or the refusal: the reader's, 16 for no amount, 15 for too little room."""
-    answer = read(payload)
+    answer = read(payload, edition=edition)
     if not isinstance(answer, Accepted):
         return answer
     texts = payload.decode().split(BREAKS[answer.brk].decode())

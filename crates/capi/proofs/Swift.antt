@@ -22,6 +22,7 @@ use Rattle.sieve.specs.Rules.{isEmpty}
 use Rattle.sieve.specs.Verdict.{Refusal, under, findings, first}
 use Rattle.sieve.proofs.Findings.{each-none, found-none}
 use Rattle.sieve.proofs.Numbers.{Each, Small, each-first, each-found}
+use Rattle.swiss.specs.declared.Edition.the-variants.{V24}
 use Rattle.swiss.specs.Swiss.{swiss}
 use Rattle.swiss.proofs.Numbers.{small-findings}
 use Rattle.packing.specs.Packing.{packedRefusal}
@@ -32,7 +33,7 @@ use Rattle.swift.specs.declared.Mapped.the-variants.{Laid, Refused}
 use Rattle.swift.specs.Fields.{contents, countsOf}
 use Rattle.swift.specs.Answering.{noAmount, fieldFindings, IsMapped}
 use Rattle.swift.specs.Promised.{AreSmall}
-use Rattle.swift.proofs.Bounds.{at-most-331}
+use Rattle.swift.proofs.Bounds.{at-most-368}
 use Rattle.swift.proofs.Making.{some-content}
 use Rattle.swift.proofs.Promise.{refusal-changes-nothing, laid-in-front, laid-found-nothing, refused-found}
 use Rattle.swift.proofs.Small.{small-counts}
@@ -48,11 +49,11 @@ unfolding first
 none-of-none r e = absurd (Option·none-ne-some r e)
 
 low-findings : (p : Bytes) (room : ℕ) → Each Low (first (fieldFindings swiss p room))
-unfolding fieldFindings
+unfolding fieldFindings swiss
 low-findings p room =
     let ls = linesOf (cut p) in
     let last = noRoom room (length (contents ls)) in
-    each-first {P = Low} (first (findings swiss p)) (noAmount ls ∷ last ∷ []) (λ r e. small-findings p r e .line)
+    each-first {P = Low} (first (findings swiss p)) (noAmount ls ∷ last ∷ []) (λ r e. small-findings V24 p r e .line)
     (each-first {P = Low} (noAmount ls) (last ∷ []) (each-found Low (isEmpty 19 ls) (under 16 19) (lit≤ tt))
     (each-first {P = Low} last [] (each-found Low (ltb room (length (contents ls))) (under 15 0) (lit≤ tt)) none-of-none))
 
@@ -60,12 +61,12 @@ pub low-line : {p dest : Bytes} {f : Fault} {after : Bytes} → IsMapped swiss p
 low-line {p} {dest} {f} h = low-findings p (length dest) (paperFault f) (refused-found h)
 
 -- what is laid is counted by few bits
-pub few-told : {p dest : Bytes} {c : Counts} {after : Bytes} → IsMapped swiss p dest (Laid c) after → AreSmall c × (c .bytes ≤ 331)
-unfolding fieldFindings
+pub few-told : {p dest : Bytes} {c : Counts} {after : Bytes} → IsMapped swiss p dest (Laid c) after → AreSmall c × (c .bytes ≤ 368)
+unfolding fieldFindings swiss
 few-told {p} {dest} h =
     let (told, _) = laid-in-front h in
     let nothing : first (findings swiss p) ≡ none = each-none (fieldFindings swiss p (length dest)) (laid-found-nothing h) 0 in
-    rw told (small-counts p nothing, at-most-331 (linesOf (cut p)))
+    rw told (small-counts V24 p nothing, at-most-368 (linesOf (cut p)))
 
 module _ (p dest : Bytes) (list : List ℕ) (room : ℕ) (is-room : room ≡ roomBeside (length dest) (length list) 5) where
   abbrev ls : List Bytes

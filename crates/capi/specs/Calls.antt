@@ -10,6 +10,7 @@ use Rattle.sieve.specs.Lines.{cut, linesOf}
 use Rattle.sieve.specs.Reading.{noRoom}
 use Rattle.sieve.specs.Rules.{Layout}
 use Rattle.sieve.specs.Verdict.{Refusal, first}
+use Rattle.swiss.specs.declared.Edition.the-variants.{V24}
 use Rattle.glance.specs.declared.Account.{Account}
 use Rattle.glance.specs.declared.Account.the-variants.{Unknown, At}
 use Rattle.packing.specs.Packing.{packedRefusal, packedPlace, packedLaying}
@@ -38,7 +39,7 @@ packedPile (some r) = packedRefusal r
 -- of a buffer, places, a count and a list for entries, the number r and the list afterwards
 pub record IsPackedPiled (buffer : Bytes) (places : List ℕ) (count : ℕ) (answers : List ℕ) (r : ℕ) (after : List ℕ) : Type 0 where
   pub number : r ≡ packedPile (first (pileFindings buffer places count (length answers)))
-  pub lent : after ≡ filledBy (entries buffer places count) answers (first (pileFindings buffer places count (length answers)))
+  pub lent : after ≡ filledBy (entries V24 buffer places count) answers (first (pileFindings buffer places count (length answers)))
 
 -- the counts as numbers: lines of 59a, of 32B and of 70, characters cut, characters replaced
 abbrev pub toldCounts : Counts → List ℕ

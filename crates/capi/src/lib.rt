@@ -1,4 +1,4 @@
-// Calls for C: the verdict on a payload and the place of a line as one number each, the list of places, the account at a
+// Calls for C, all of edition 2.4: the verdict on a payload and the place of a line as one number each, the list of places, the account at a
 // glance, the writer, numbers of our own, a pile of bills, SWIFT fields, and a payload that comes in bits.
 use glance::Account;
 use glance::glance;
@@ -22,7 +22,7 @@ use scanner::hand_over;
 use swift::Counts;
 use swift::Mapped;
 use swift::fields;
-use swiss::limits::MOST_LINES;
+use swiss::Edition;
 use swiss_judge::judge;
 use swiss_judge::verdict;
 use writer::write;
@@ -54,7 +54,7 @@ pub extern "C" fn qrbill_line(payload: &[u8], line: u32) -> u32
 {
     let mut places = [0; 68];
     let answer = judge(payload, &mut places);
-    packed_line(answer, &places, line, MOST_LINES)
+    packed_line(answer, &places, line, Edition::MOST_LINES)
 }
 
 // The line count of an accepted payload, plus 100 for CR LF, with the places in the list's front; else 1000 times the
@@ -63,7 +63,7 @@ pub extern "C" fn qrbill_line(payload: &[u8], line: u32) -> u32
 pub extern "C" fn qrbill_places(payload: &[u8], list: &mut [u16]) -> u32
     ensures { λ r. ⌜ IsPackedRead swiss (now (payload .entry)) (now (list .entry)) r (now (list .exit)) ⌝ }
 {
-    packed_verdict(read(payload, list))
+    packed_verdict(read(payload, Edition::V24, list))
 }
 
 // 1000 times the start plus the length of the IBAN, by the first 37 bytes; 0 where it is not known.
@@ -90,7 +90,14 @@ pub extern "C" fn qrbill_write(
         ⌜ IsPackedWritten swiss (now (text .entry)) (now (list .entry)) count (breakFor crlf) (now (dest .entry)) r
         (now (dest .exit)) ⌝ }
 {
-    packed_laying(write(text, list, told_count(count), break_for(crlf), dest))
+    packed_laying(write(
+        text,
+        list,
+        told_count(count),
+        break_for(crlf),
+        Edition::V24,
+        dest,
+    ))
 }
 
 // The length of a QR reference made of 26 digits, which lies in the destination's front; else 10000 or 15000, and the
@@ -136,7 +143,7 @@ pub extern "C" fn qrbill_pile(buffer: &[u8], places: &[u32], count: u32, answers
     ensures { λ r.
         ⌜ IsPackedPiled (now (buffer .entry)) (now (places .entry)) count (now (answers .entry)) r (now (answers .exit)) ⌝ }
 {
-    match pile(buffer, places, count as usize, answers) {
+    match pile(buffer, places, count as usize, Edition::V24, answers) {
         Piled::Done => 0,
         Piled::Refused(fault) => packed_refusal(fault),
     }
@@ -165,7 +172,7 @@ pub extern "C" fn qrbill_swift(payload: &[u8], dest: &mut [u8], list: &mut [u16]
         (now (list .exit)) ⌝ }
 {
     let room = room_beside(dest.len(), list.len(), 5);
-    match fields(payload, &mut dest[0..room]) {
+    match fields(payload, Edition::V24, &mut dest[0..room]) {
         Mapped::Refused(fault) => packed_refusal(fault),
         Mapped::Laid(counts) => {
             fill(list, &told_counts(counts));

@@ -1,19 +1,25 @@
-// Runs the reader, the viewer, the writer and the scanner over the records on standard input, and writes what no call for
-// C tells: the byte that a refusal points at, what a viewer hands out, and what a scanner whose state goes by value
-// answers. (Lists and destinations are compared from C, but for the scanner's.)
-// A record is four bytes of length, the lowest first, and that many bytes, at most 65,536: a letter, R, W or S, and what
-// it is about. For R and a payload a line has a refusal's number, line and place, or 0, the line count and the kind of break,
-// 1 for LF and 2 for CR LF. A second line has what a viewer of the payload hands out, opened anew and moved on 0, 1, 2, ..
-// times: `+` where it is not done and `.` where it is, the length of the part that it hands out, a colon, and the part. It
-// ends one move after the viewer is done, and with what it hands out after a million moves. For W and a call of the writer
-// a line has a refusal's number, line and place, or 0, the length and 0. The call is given two bytes to a number, the low
-// one first: the count of lines, the break (1 for LF, 2 for CR LF), how many bytes the destination has, how many numbers
-// the list has, and those numbers. The rest of the record is the text. For S and a payload that comes in bits a line has
-// what the scanner answers at the close, as for R, and a second line the numbers of the list that it was lent, 128 zeros
-// before. How many bits there are is given in two bytes, and then the length of each; the rest of the record is the
-// payload.
+// Runs the reader, the viewer, the writer, the scanner, the SWIFT fields and the pile over the records on standard input,
+// under either edition, and writes what no call for C tells: the byte that a refusal points at, what a viewer hands out,
+// what a scanner whose state goes by value answers, and all that edition 2.2 does. (Lists and destinations of the others
+// are compared from C.)
+// A record is four bytes of length, the lowest first, and that many bytes, at most 65,536: a letter and what it is about.
+// The letter is a capital one for edition 2.4 and a small one for 2.2, which no viewer knows. Numbers have two bytes, the
+// low one first. What is asked is answered by a line with a refusal's number, line and place, or with 0 and two numbers:
+// R: a payload. The line count, and the kind of break, 1 for LF and 2 for CR LF. A second line has what a viewer of the
+//    payload hands out, opened anew and moved on 0, 1, 2, .. times: `+` where it is not done and `.` where it is, the
+//    length of the part that it hands out, a colon, and the part. It ends one move after the viewer is done, and with what
+//    it hands out after a million moves.
+// W: a call of the writer: the count of lines, the break (1 for LF, 2 for CR LF), how many bytes the destination has, how
+//    many numbers the list has, those numbers, and the text. The length, and 0.
+// S: how many bits there are, the length of each, and a payload that comes in them. As for R, and a second line has the
+//    numbers of the list that the scanner was lent, 128 zeros before.
+// M: a payload whose SWIFT fields are made. The length, and 0; a line with the lines of each field, one with the
+//    characters cut, those replaced and 0, and one with all 320 bytes that were lent, zeros before.
+// P: how many bills there are, the places of four bills, and the buffer. Where it is done, a line with all 8 numbers that
+//    were lent, zeros before, and no other.
 use libc::STDIN_FILENO;
 use libc::STDOUT_FILENO;
+use pile::Piled;
 use scanner::Scan;
 use sieve::Answer;
 use sieve::Break;
@@ -21,6 +27,9 @@ use sieve::Fault;
 use sieve::Written;
 use sieve::line_of;
 use sieve::number_of;
+use swift::Counts;
+use swift::Mapped;
+use swiss::Edition;
 ghost use Prim.Native.Nat.{_≤_, _<_};
 
 fn write_told(number: usize, line: usize, place: usize) {
@@ -100,10 +109,9 @@ fn write_view(payload: &[u8]) {
     io::write_all(STDOUT_FILENO, b"\n");
 }
 
-fn run_reading(payload: &[u8]) {
+fn run_reading(payload: &[u8], edition: Edition) {
     let mut list = [0u16; 102];
-    write_answer(reader::read(payload, &mut list));
-    write_view(payload);
+    write_answer(reader::read(payload, edition, &mut list));
 }
 
 fn wide(x: u8) -> usize
@@ -140,7 +148,7 @@ fn break_of(n: usize) -> Break {
 
 // Calls the writer with the front of the list and of the destination. A call that is cut off, or that asks for more than
 // they have, is not made.
-fn run_call(call: &[u8], list: &mut [u16], dest: &mut [u8]) {
+fn run_call(call: &[u8], edition: Edition, list: &mut [u16], dest: &mut [u8]) {
     if call.len() < 8 {
         return;
     }
@@ -163,14 +171,15 @@ fn run_call(call: &[u8], list: &mut [u16], dest: &mut [u8]) {
         &list[0..numbers],
         pair(call[0], call[1]),
         brk,
+        edition,
         &mut dest[0..room],
     ));
 }
 
-fn run_writing(call: &[u8]) {
+fn run_writing(call: &[u8], edition: Edition) {
     let mut list = [0; 104];
     let mut dest = [0; 1200];
-    run_call(call, &mut list, &mut dest);
+    run_call(call, edition, &mut list, &mut dest);
 }
 
 fn at_most(size: usize, most: usize) -> usize
@@ -208,7 +217,7 @@ fn write_list(list: &[u16]) {
 }
 
 // A record that is cut off is not scanned.
-fn run_scanning(record: &[u8]) {
+fn run_scanning(record: &[u8], edition: Edition) {
     if record.len() < 2 {
         return;
     }
@@ -218,20 +227,80 @@ fn run_scanning(record: &[u8]) {
     }
     let mut list = [0u16; 128];
     let scan = scanned(&record[2..end], &record[end..]);
-    write_answer(scan.close(&mut list));
+    write_answer(scan.close(edition, &mut list));
     write_list(&list);
 }
+
+fn write_mapped(counts: Counts, dest: &[u8]) {
+    write_told(0, counts.bytes, 0);
+    write_told(counts.beneficiary, counts.transaction, counts.remittance);
+    write_told(counts.cut, counts.replaced, 0);
+    write_part(dest);
+    io::write_all(STDOUT_FILENO, b"\n");
+}
+
+fn run_mapping(payload: &[u8], edition: Edition) {
+    let mut dest = [0u8; 320];
+    match swift::fields(payload, edition, &mut dest) {
+        Mapped::Refused(f) => write_fault(f),
+        Mapped::Laid(counts) => write_mapped(counts, &dest),
+    }
+}
+
+// The places of four bills: start and length of each.
+fn four_places(bytes: &[u8]) -> [u32; 8] {
+    [
+        number(bytes, 0) as u32,
+        number(bytes, 1) as u32,
+        number(bytes, 2) as u32,
+        number(bytes, 3) as u32,
+        number(bytes, 4) as u32,
+        number(bytes, 5) as u32,
+        number(bytes, 6) as u32,
+        number(bytes, 7) as u32,
+    ]
+}
+
+// A record that is cut off is not judged.
+fn run_piling(record: &[u8], edition: Edition) {
+    if record.len() < 18 {
+        return;
+    }
+    let places = four_places(&record[2..18]);
+    let mut answers = [0u16; 8];
+    let count = pair(record[0], record[1]);
+    match pile::pile(&record[18..], &places, count, edition, &mut answers) {
+        Piled::Refused(f) => write_fault(f),
+        Piled::Done => write_list(&answers),
+    }
+}
+
+// Runs a record by its letter.
+fn run_as(letter: u8, rest: &[u8], edition: Edition) {
+    match letter {
+        b'R' => run_reading(rest, edition),
+        b'W' => run_writing(rest, edition),
+        b'M' => run_mapping(rest, edition),
+        b'P' => run_piling(rest, edition),
+        _ => run_scanning(rest, edition),
+    }
+}
+
+// How far a small letter stands behind its capital.
+const SMALL: u8 = 32;
 
 fn run(record: &[u8]) {
     if record.len() == 0 {
         return;
     }
-    if record[0] == b'R' {
-        run_reading(&record[1..]);
-    } else if record[0] == b'W' {
-        run_writing(&record[1..]);
-    } else {
-        run_scanning(&record[1..]);
+    let letter = record[0];
+    if b'a' <= letter {
+        run_as(letter - SMALL, &record[1..], Edition::V22);
+        return;
+    }
+    run_as(letter, &record[1..], Edition::V24);
+    if letter == b'R' {
+        write_view(&record[1..]);
     }
 }
 

@@ -20,7 +20,7 @@ use Rattle.marks.proofs.Words.{each-below}
 
 -- the mark of a byte from which c more is taken, and to which d more is added
 abbrev mark : ℕ → ℕ → ℕ → ℕ
-mark c d x = bitAnd (bitOr (bitOr ((x + 224 - c) % 256) x) ((x + 1 + d) % 256)) 0x80
+mark c d x = bitAnd (bitOr ((x + 224 - c) % 256) ((x + 1 + d) % 256)) 0x80
 
 -- a mark is the highest bit, or there is none, and then the byte is a character by itself
 abbrev right : ℕ → ℕ → Bool
@@ -98,8 +98,8 @@ module _ (n w x : ℕ) (byte : x < 256) where
 
   -- so the marks of a number are those of the bytes behind the first, and its mark
   first-marked : (c d : ℕ) → c ≤ 1 → d ≤ 1
-      → bitAnd (bitOr (bitOr (less (suc n) c (w * 2 ^ 8 + x)) (w * 2 ^ 8 + x)) (more (suc n) d (w * 2 ^ 8 + x))) (each (suc n) 0x80)
-      ≡ bitAnd (bitOr (bitOr (less n (1 - (x + 224 - c) / 256) w) w) (more n ((x + 1 + d) / 256) w)) (each n 0x80) * 2 ^ 8 + mark c d x
+      → bitAnd (bitOr (less (suc n) c (w * 2 ^ 8 + x)) (more (suc n) d (w * 2 ^ 8 + x))) (each (suc n) 0x80)
+      ≡ bitAnd (bitOr (less n (1 - (x + 224 - c) / 256) w) (more n ((x + 1 + d) / 256) w)) (each n 0x80) * 2 ^ 8 + mark c d x
   unfolding word
   first-marked c d h k =
       let a = (x + 224 - c) % 256 in
@@ -108,16 +108,15 @@ module _ (n w x : ℕ) (byte : x < 256) where
       let v = more n ((x + 1 + d) / 256) w in
       let a-byte : a < 2 ^ 8 = omega arith in
       let b-byte : b < 2 ^ 8 = omega arith in
-      ap₂ (λ (s t : ℕ). bitAnd (bitOr (bitOr s (w * 2 ^ 8 + x)) t) (each (suc n) 0x80)) (first-less c h) (first-more d)
-      ∙ ap (λ (s : ℕ). bitAnd (bitOr s (v * 2 ^ 8 + b)) (each (suc n) 0x80)) (or-block 8 u w a x a-byte byte)
-      ∙ ap (λ (s : ℕ). bitAnd s (each (suc n) 0x80)) (or-block 8 (bitOr u w) v (bitOr a x) b (or-lt 8 a x a-byte byte) b-byte)
-      ∙ and-block 8 (bitOr (bitOr u w) v) (each n 0x80) (bitOr (bitOr a x) b) 0x80 (or-lt 8 (bitOr a x) b (or-lt 8 a x a-byte byte) b-byte) (omega arith)
+      ap₂ (λ (s t : ℕ). bitAnd (bitOr s t) (each (suc n) 0x80)) (first-less c h) (first-more d)
+      ∙ ap (λ (s : ℕ). bitAnd s (each (suc n) 0x80)) (or-block 8 u v a b a-byte b-byte)
+      ∙ and-block 8 (bitOr u v) (each n 0x80) (bitOr a b) 0x80 (or-lt 8 a b a-byte b-byte) (omega arith)
 
 -- what is reckoned marks the bytes, whatever is taken from the first and added to it
 reckoned : (t : Bytes) → ((i : ℕ) → getD t i 0 < 256) → (c d : ℕ) → c ≤ 1 → d ≤ 1
-    → Marks (bitAnd (bitOr (bitOr (less (length t) c (word t)) (word t)) (more (length t) d (word t))) (each (length t) 0x80)) t
+    → Marks (bitAnd (bitOr (less (length t) c (word t)) (more (length t) d (word t))) (each (length t) 0x80)) t
 unfolding word
-reckoned [] bytes c d h k = rw (and-zero-r (bitOr (bitOr (less 0 c 0) 0) (more 0 d 0))) no-byte
+reckoned [] bytes c d h k = rw (and-zero-r (bitOr (less 0 c 0) (more 0 d 0))) no-byte
 reckoned (x ∷ t) bytes c d h k =
     let byte = bytes 0 in
     let rest = reckoned t (λ i. bytes (suc i)) (1 - (x + 224 - c) / 256) ((x + 1 + d) / 256) (omega arith) (omega arith) in

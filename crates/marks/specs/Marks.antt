@@ -10,9 +10,9 @@ use Rattle.sieve.specs.Bytes.{Bytes}
 use Rattle.sieve.specs.Latin.{inOne}
 use Rattle.marks.specs.Words.{each}
 
--- the marks that are reckoned for a number of n bytes: the highest bits of 20 less, of the bytes themselves, and of 1 more
+-- the marks that are reckoned for a number of n bytes: the highest bits of 20 less, and of 1 more
 unfoldable pub marksOf : ℕ → ℕ → ℕ
-marksOf n w = bitAnd (bitOr (bitOr ((w + (2 ^ (8 * n) - each n 0x20)) % 2 ^ (8 * n)) w) ((w + each n 1) % 2 ^ (8 * n))) (each n 0x80)
+marksOf n w = bitAnd (bitOr ((w + (2 ^ (8 * n) - each n 0x20)) % 2 ^ (8 * n)) ((w + each n 1) % 2 ^ (8 * n))) (each n 0x80)
 
 -- which of the n bytes of a number is the first that is marked, counted from 0; n where none is
 unfoldable pub firstMarked : ℕ → ℕ → ℕ

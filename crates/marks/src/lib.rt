@@ -37,12 +37,12 @@ fn word(s: &[u8]) -> u64
 }
 
 // The marks of the eight bytes of a number: the highest bit of each that is no character by itself. A byte below 20 has
-// it once 20 is taken off, DEL once 1 is added, and every other such byte of its own. A byte that is a character may be
-// marked too, where the one before it is below 20.
+// it once 20 is taken off, so has FF, and DEL and what is above it once 1 is added. A byte that is a character may be
+// marked too, where the one before it is below 20 or FF.
 fn marks(w: u64) -> u64
     ensures { λ r. ⌜ r ≡ marksOf 8 w ⌝ }
 {
-    (wrapping_add_u64(w, LESS_SPACES) | w | wrapping_add_u64(w, ONES)) & HIGHEST
+    (wrapping_add_u64(w, LESS_SPACES) | wrapping_add_u64(w, ONES)) & HIGHEST
 }
 
 // The marks of the eight bytes from `at` on.

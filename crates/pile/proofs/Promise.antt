@@ -12,7 +12,8 @@ use Rattle.sieve.specs.Verdict.{verdict}
 use Rattle.sieve.specs.Writing.{spans, handed}
 use Rattle.sieve.proofs.PaperLosesNothing.{one-fault}
 use Rattle.sieve.proofs.ReaderPromises.{answer-is-verdict}
-use Rattle.swiss.specs.Swiss.{swiss}
+use Rattle.swiss.specs.declared.Edition.{Edition}
+use Rattle.swiss.specs.Swiss.{swissIn}
 use Rattle.joining.specs.Handing.{lineAt}
 use Rattle.joining.proofs.Handing.{outside-first, outside-none}
 use Rattle.pile.specs.declared.Piled.{Piled}
@@ -29,43 +30,42 @@ one-piled (Refused f) Done e = let z : _≡_ {A = ℕ} 0 1 = cc in absurd (omega
 one-piled (Refused f) (Refused g) e = ap Refused (one-fault f g cc)
 
 -- one answer, and one content of the list
-pub one-piling : {buffer : Bytes} {places : List ℕ} {count : ℕ} {answers : List ℕ} {q r : Piled} {a b : List ℕ} → IsPiled buffer places count answers q a → IsPiled buffer places count answers r b → (q ≡ r) × (a ≡ b)
+pub one-piling : {ed : Edition} {buffer : Bytes} {places : List ℕ} {count : ℕ} {answers : List ℕ} {q r : Piled} {a b : List ℕ} → IsPiled ed buffer places count answers q a → IsPiled ed buffer places count answers r b → (q ≡ r) × (a ≡ b)
 one-piling {q = q} {r = r} h k = (one-piled q r (h .answer ∙ sym (k .answer)), h .lent ∙ sym (k .lent))
 
 -- a refusal of the pile changes no number
-pub refusal-changes-nothing : {buffer : Bytes} {places : List ℕ} {count : ℕ} {answers : List ℕ} {f : Fault} {after : List ℕ} → IsPiled buffer places count answers (Refused f) after → after ≡ answers
+pub refusal-changes-nothing : {ed : Edition} {buffer : Bytes} {places : List ℕ} {count : ℕ} {answers : List ℕ} {f : Fault} {after : List ℕ} → IsPiled ed buffer places count answers (Refused f) after → after ≡ answers
 refusal-changes-nothing h = rw (← h .answer) at (h .lent)
 
-module _ {buffer : Bytes} {places : List ℕ} {count : ℕ} {answers after : List ℕ} (h : IsPiled buffer places count answers Done after) where
+module _ {ed : Edition} {buffer : Bytes} {places : List ℕ} {count : ℕ} {answers after : List ℕ} (h : IsPiled ed buffer places count answers Done after) where
   -- a pile that is done leaves the entries in the front
-  laid : after ≡ over answers (entries buffer places count)
+  laid : after ≡ over answers (entries ed buffer places count)
   laid = rw (← h .answer) at (h .lent)
 
   -- what lies behind the entries stays
   pub past-the-count-stays : drop (2 * count) after ≡ drop (2 * count) answers
   past-the-count-stays =
-      let size = entries-length buffer places count in
-      rw (laid, drop-at (entries buffer places count) (drop (length (entries buffer places count)) answers) (2 * count) size, size)
+      let size = entries-length ed buffer places count in
+      rw (laid, drop-at (entries ed buffer places count) (drop (length (entries ed buffer places count)) answers) (2 * count) size, size)
 
   -- each bill's entry is that of its own verdict
-  pub own-entry : (i : ℕ) → i < count → take 2 (drop (2 * i) after) ≡ entry (verdict swiss (lineAt buffer places i))
+  pub own-entry : (i : ℕ) → i < count → take 2 (drop (2 * i) after) ≡ entry (verdict (swissIn ed) (lineAt buffer places i))
   own-entry i k =
-      let E = entries buffer places count in
-      let v = verdict swiss (lineAt buffer places i) in
-      rw (laid, drop-append-le (2 * i) E (drop (length E) answers) (omega (arith, entries-length buffer places count)), entry-next buffer places count i k, append-assoc (entry v)) (take-at (entry v) _ 2 (entry-length v))
+      let E = entries ed buffer places count in
+      let v = verdict (swissIn ed) (lineAt buffer places i) in
+      rw (laid, drop-append-le (2 * i) E (drop (length E) answers) (omega (arith, entries-length ed buffer places count)), entry-next ed buffer places count i k, append-assoc (entry v)) (take-at (entry v) _ 2 (entry-length v))
 
   -- that is the reader's answer on the bill alone, for any list with room for its places
-  pub as-the-reader : (i : ℕ) → i < count → (list : List ℕ) → 102 ≤ length list → take 2 (drop (2 * i) after) ≡ entry (readAnswer swiss (lineAt buffer places i) list .answer)
-  unfolding swiss
-  as-the-reader i k list room = own-entry i k ∙ ap entry (sym (answer-is-verdict swiss (lineAt buffer places i) list room))
+  pub as-the-reader : (i : ℕ) → i < count → (list : List ℕ) → 102 ≤ length list → take 2 (drop (2 * i) after) ≡ entry (readAnswer (swissIn ed) (lineAt buffer places i) list .answer)
+  as-the-reader i k list room = own-entry i k ∙ ap entry (sym (answer-is-verdict (swissIn ed) (lineAt buffer places i) list room))
 
 -- an entry hangs on its own bill alone: whatever else two piles differ in, the same bill has the same entry
-pub neighbours-stay : {b c : Bytes} {p q : List ℕ} {count : ℕ} {answers₁ answers₂ after₁ after₂ : List ℕ} → IsPiled b p count answers₁ Done after₁ → IsPiled c q count answers₂ Done after₂
+pub neighbours-stay : {ed : Edition} {b c : Bytes} {p q : List ℕ} {count : ℕ} {answers₁ answers₂ after₁ after₂ : List ℕ} → IsPiled ed b p count answers₁ Done after₁ → IsPiled ed c q count answers₂ Done after₂
     → (j : ℕ) → j < count → lineAt b p j ≡ lineAt c q j → take 2 (drop (2 * j) after₁) ≡ take 2 (drop (2 * j) after₂)
-neighbours-stay h k j few same = own-entry h j few ∙ ap (λ (l : Bytes). entry (verdict swiss l)) same ∙ sym (own-entry k j few)
+neighbours-stay {ed = ed} h k j few same = own-entry h j few ∙ ap (λ (l : Bytes). entry (verdict (swissIn ed) l)) same ∙ sym (own-entry k j few)
 
 -- a pile of no bills is done, and changes no number
-pub no-bills : (buffer : Bytes) (places answers : List ℕ) → IsPiled buffer places 0 answers Done answers
+pub no-bills : (ed : Edition) (buffer : Bytes) (places answers : List ℕ) → IsPiled ed buffer places 0 answers Done answers
 unfolding entriesOf handed spans
-no-bills buffer places answers =
-    is-done buffer places 0 answers (omega arith) (omega arith) (outside-first buffer places 0 ∙ outside-none buffer places 0 0 (omega arith)) (omega arith) refl
+no-bills ed buffer places answers =
+    is-done buffer places 0 answers ed (omega arith) (omega arith) (outside-first buffer places 0 ∙ outside-none buffer places 0 0 (omega arith)) (omega arith) refl

@@ -3,14 +3,15 @@ use sieve::Answer;
 use sieve::Fault;
 use sieve::line_of;
 use sieve::number_of;
-use swiss_judge::judge;
+use swiss::Edition;
+use swiss_judge::judge_in;
 ghost use mathlib.Core.Path.{_≡_};
 ghost use Prim.Native.Nat.{_*_, _≤_};
 ghost use lib.ListN.{length};
 ghost use Rattle.sieve.specs.Bytes.{over};
 ghost use Rattle.sieve.specs.Paper.{paper};
 ghost use Rattle.sieve.specs.Verdict.{verdict};
-ghost use Rattle.swiss.specs.Swiss.{swiss};
+ghost use Rattle.swiss.specs.Swiss.{swissIn};
 ghost use Rattle.pile.specs.Pile.{outsideAt, entry, Small, entries, Fillable, IsPiled};
 
 const MOST_BILLS: usize = 500;
@@ -56,20 +57,21 @@ fn lay_entry(part: &mut [u16], answer: Answer)
 }
 
 // Judges a bill, and puts its answer into its own part of the list.
-fn judge_bill(bill: &[u8], part: &mut [u16])
+fn judge_bill(bill: &[u8], edition: Edition, part: &mut [u16])
     requires { ⌜ length (now part) ≡ 2 ⌝ }
-    ensures { λ _. ⌜ now (part .exit) ≡ entry (verdict swiss (now (bill .entry))) ⌝ }
+    ensures { λ _. ⌜ now (part .exit) ≡ entry (verdict (swissIn edition) (now (bill .entry))) ⌝ }
 {
     let mut lines = [0; 68];
-    let answer = judge(bill, &mut lines);
+    let answer = judge_in(bill, &mut lines, edition);
     lay_entry(part, answer);
 }
 
 // Judges bill after bill. One bill's answer says nothing about another's.
-fn judge_all(buffer: &[u8], places: &[u32], count: usize, answers: &mut [u16])
+fn judge_all(buffer: &[u8], places: &[u32], count: usize, edition: Edition, answers: &mut [u16])
     requires { ⌜ Fillable (now buffer) (now places) count (now answers) ⌝ }
     ensures { λ _.
-        ⌜ now (answers .exit) ≡ over (now (answers .entry)) (entries (now (buffer .entry)) (now (places .entry)) count) ⌝ }
+        ⌜ now (answers .exit)
+        ≡ over (now (answers .entry)) (entries edition (now (buffer .entry)) (now (places .entry)) count) ⌝ }
 {
     let mut i = 0;
     while i < count {
@@ -77,17 +79,23 @@ fn judge_all(buffer: &[u8], places: &[u32], count: usize, answers: &mut [u16])
         let end = start + places[2 * i + 1] as usize;
         let at = 2 * i;
         let next = at + 2;
-        judge_bill(&buffer[start..end], &mut answers[at..next]);
+        judge_bill(&buffer[start..end], edition, &mut answers[at..next]);
         i += 1;
     }
 }
 
-// Judges the bills that the first `count` places give of the buffer, and puts an entry for each into the front of the
+// Judges under an edition the bills that the first `count` places give of the buffer, and puts an entry for each into the front of the
 // list: 0 and the line count of an accepted bill, or the refusal's number and line. A refusal of the pile changes no
 // number.
-pub fn pile(buffer: &[u8], places: &[u32], count: usize, answers: &mut [u16]) -> Piled
+pub fn pile(
+    buffer: &[u8],
+    places: &[u32],
+    count: usize,
+    edition: Edition,
+    answers: &mut [u16],
+) -> Piled
     ensures { λ r.
-        ⌜ IsPiled (now (buffer .entry)) (now (places .entry)) count (now (answers .entry)) r (now (answers .exit)) ⌝ }
+        ⌜ IsPiled edition (now (buffer .entry)) (now (places .entry)) count (now (answers .entry)) r (now (answers .exit)) ⌝ }
 {
     if MOST_BILLS < count {
         return Piled::Refused(Fault::LineCount(0));
@@ -102,6 +110,6 @@ pub fn pile(buffer: &[u8], places: &[u32], count: usize, answers: &mut [u16]) ->
     if answers.len() < 2 * count {
         return Piled::Refused(Fault::NoRoom);
     }
-    judge_all(buffer, places, count, answers);
+    judge_all(buffer, places, count, edition, answers);
     Piled::Done
 }

@@ -15,7 +15,8 @@ use Rattle.sieve.specs.declared.Fault.the-variants.{TooManyBytes}
 use Rattle.sieve.specs.Bytes.{Bytes}
 use Rattle.sieve.specs.Reading.{IsRead}
 use Rattle.swiss.specs.Limits.{mostBytes}
-use Rattle.swiss.specs.Swiss.{swiss}
+use Rattle.swiss.specs.declared.Edition.{Edition}
+use Rattle.swiss.specs.Swiss.{swissIn}
 use Rattle.scanner.specs.declared.Scan.{Scan}
 use Rattle.scanner.specs.Scanning.{tooMany, heldIn, heldBy, mostIn, handed, closeAnswer, IsClosed}
 
@@ -36,14 +37,14 @@ module _ (t : Scan) (b : Bytes) where
   unfolding handed
   handed-in h = rw (le-ltb (mostIn (t .bytes)) (t .len + length b) h)
 
-module _ (t : Scan) (list : List ℕ) where
-  pub over-closed : mostBytes < t .len → IsClosed t list (Refused TooManyBytes) list
+module _ (ed : Edition) (t : Scan) (list : List ℕ) where
+  pub over-closed : mostBytes < t .len → IsClosed ed t list (Refused TooManyBytes) list
   unfolding closeAnswer
   over-closed h = let e = lt-ltb _ _ h in record { answer = rw e; lent = rw e }
 
-  pub held-closed : t .len ≤ mostBytes → {r : Answer} {after : List ℕ} → IsRead swiss (take (t .len - 0) (t .bytes)) list r after → IsClosed t list r after
+  pub held-closed : t .len ≤ mostBytes → {r : Answer} {after : List ℕ} → IsRead (swissIn ed) (take (t .len - 0) (t .bytes)) list r after → IsClosed ed t list r after
   unfolding closeAnswer
   held-closed h is =
       let e = le-ltb _ _ h in
-      let all : IsRead swiss (heldBy t) list _ _ = rw sub-zero at is in
+      let all : IsRead (swissIn ed) (heldBy t) list _ _ = rw sub-zero at is in
       record { answer = rw e (all .answer); lent = rw e (all .lent) }

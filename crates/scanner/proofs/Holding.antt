@@ -12,7 +12,8 @@ use Rattle.sieve.specs.Reading.{readAnswer}
 use Rattle.sieve.specs.Verdict.{under, refused, findings, first, verdict}
 use Rattle.sieve.proofs.ReaderPromises.{refused-unlisted}
 use Rattle.swiss.specs.Limits.{mostBytes}
-use Rattle.swiss.specs.Swiss.{swiss}
+use Rattle.swiss.specs.declared.Edition.{Edition}
+use Rattle.swiss.specs.Swiss.{swissIn}
 use Rattle.scanner.specs.declared.Scan.{Scan}
 use Rattle.scanner.specs.Scanning.{tooMany, heldIn, heldBy, mostIn, handed, handedAll, closeAnswer}
 use Rattle.scanner.specs.Holding.{Holds, whole, overfull}
@@ -74,27 +75,28 @@ unfolding handedAll flatten
 all-hold {p} [] h = rw append-nil h
 all-hold {p} {t} (b ∷ bs) h = rw (← append-assoc p b (flatten bs)) (all-hold bs (hand-holds b h))
 
--- over 997 bytes the verdict is 2
-pub too-many-refused : (p : Bytes) → mostBytes < length p → verdict swiss p ≡ refused (under 2 0)
-unfolding verdict findings first swiss
-too-many-refused p h = rw (ne-eqb (length p) 0 (λ e. omega arith), lt-ltb _ _ h)
+module _ (ed : Edition) where
+  -- over 997 bytes the verdict is 2
+  pub too-many-refused : (p : Bytes) → mostBytes < length p → verdict (swissIn ed) p ≡ refused (under 2 0)
+  unfolding verdict findings first
+  too-many-refused p h = rw (ne-eqb (length p) 0 (λ e. omega arith), lt-ltb _ _ h)
 
--- what is held is closed as the payload is read
-pub close-answers : {p : Bytes} {t : Scan} (list : List ℕ) → mostBytes ≤ length (t .bytes) → Holds p t → closeAnswer t list ≡ readAnswer swiss p list
-unfolding closeAnswer
-close-answers {p} {t} list room (whole few len is) = rw (le-ltb mostBytes (t .len) (omega (arith, few, len)), is)
-close-answers {p} {t} list room (overfull more len) = rw (len, refused-unlisted swiss p list (under 2 0) (too-many-refused p (omega (arith, more, room))))
+  -- what is held is closed as the payload is read
+  pub close-answers : {p : Bytes} {t : Scan} (list : List ℕ) → mostBytes ≤ length (t .bytes) → Holds p t → closeAnswer ed t list ≡ readAnswer (swissIn ed) p list
+  unfolding closeAnswer
+  close-answers {p} {t} list room (whole few len is) = rw (le-ltb mostBytes (t .len) (omega (arith, few, len)), is)
+  close-answers {p} {t} list room (overfull more len) = rw (len, refused-unlisted (swissIn ed) p list (under 2 0) (too-many-refused p (omega (arith, more, room))))
 
--- in a room of 998 bytes, so many bytes of the front as the length says are read as the payload is
-module _ {p : Bytes} {t : Scan} (room : tooMany ≤ length (t .bytes)) where
-  pub held-judged : Holds p t → verdict swiss (heldBy t) ≡ verdict swiss p
-  held-judged (whole few len is) = ap (verdict swiss) is
-  held-judged (overfull more len) =
-      too-many-refused (heldBy t) (omega (arith, len, length-take-le (t .len) (t .bytes) (omega (arith, len, room))))
-      ∙ sym (too-many-refused p (omega (arith, more, room)))
+  -- in a room of 998 bytes, so many bytes of the front as the length says are read as the payload is
+  module _ {p : Bytes} {t : Scan} (room : tooMany ≤ length (t .bytes)) where
+    pub held-judged : Holds p t → verdict (swissIn ed) (heldBy t) ≡ verdict (swissIn ed) p
+    held-judged (whole few len is) = ap (verdict (swissIn ed)) is
+    held-judged (overfull more len) =
+        too-many-refused (heldBy t) (omega (arith, len, length-take-le (t .len) (t .bytes) (omega (arith, len, room))))
+        ∙ sym (too-many-refused p (omega (arith, more, room)))
 
-  pub held-read : (list : List ℕ) → Holds p t → readAnswer swiss (heldBy t) list ≡ readAnswer swiss p list
-  held-read list (whole few len is) = ap (λ (q : Bytes). readAnswer swiss q list) is
-  held-read list (overfull more len) =
-      refused-unlisted swiss (heldBy t) list (under 2 0) (held-judged (overfull more len) ∙ too-many-refused p (omega (arith, more, room)))
-      ∙ sym (refused-unlisted swiss p list (under 2 0) (too-many-refused p (omega (arith, more, room))))
+    pub held-read : (list : List ℕ) → Holds p t → readAnswer (swissIn ed) (heldBy t) list ≡ readAnswer (swissIn ed) p list
+    held-read list (whole few len is) = ap (λ (q : Bytes). readAnswer (swissIn ed) q list) is
+    held-read list (overfull more len) =
+        refused-unlisted (swissIn ed) (heldBy t) list (under 2 0) (held-judged (overfull more len) ∙ too-many-refused p (omega (arith, more, room)))
+        ∙ sym (refused-unlisted (swissIn ed) p list (under 2 0) (too-many-refused p (omega (arith, more, room))))

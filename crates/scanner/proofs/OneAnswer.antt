@@ -14,7 +14,7 @@ one-hand κs a x y v w h k = (h ∙ sym k, refl)
 
 -- the list at exit too
 pub one-close : OneAnswer fn.Scan.close.ended fn.Scan.close.Reads.Learnt
-one-close κs a x y v w h k = let (e, l) = one-closing _ _ x y _ _ h k in (e, ap (λ d. (tt, (d, tt))) l)
+one-close κs a x y v w h k = let (e, l) = one-closing _ _ _ x y _ _ h k in (e, ap (λ d. (tt, (tt, (d, tt)))) l)
 
 -- the room at exit too
 pub one-hand-over : OneAnswer fn.hand_over.ended fn.hand_over.Reads.Learnt

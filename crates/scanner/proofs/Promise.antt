@@ -13,24 +13,13 @@ use Rattle.sieve.specs.Verdict.{under, refused, verdict}
 use Rattle.sieve.proofs.PaperLosesNothing.{one-answer}
 use Rattle.sieve.proofs.ReaderPromises.{refused-unlisted}
 use Rattle.swiss.specs.Limits.{mostBytes}
-use Rattle.swiss.specs.Swiss.{swiss}
+use Rattle.swiss.specs.declared.Edition.{Edition}
+use Rattle.swiss.specs.Swiss.{swissIn}
 use Rattle.scanner.specs.declared.Scan.{Scan}
 use Rattle.scanner.specs.Scanning.{fresh, tooMany, heldIn, heldBy, mostIn, handed, handedAll, handedInto, closeAnswer, IsClosed}
 use Rattle.scanner.specs.Holding.{Holds, whole, overfull}
 use Rattle.scanner.proofs.Handing.{over-or-in, handed-over, handed-in}
 use Rattle.scanner.proofs.Holding.{then-front, then-rest, all-same-room, nothing-held, all-hold, close-answers, held-judged, held-read, too-many-refused}
-
--- one answer, and one content of the list
-pub one-closing : (t : Scan) (list : List ℕ) (q r : Answer) (a b : List ℕ) → IsClosed t list q a → IsClosed t list r b → (q ≡ r) × (a ≡ b)
-one-closing t list q r a b h k = (one-answer q r (h .answer ∙ sym (k .answer)), h .lent ∙ sym (k .lent))
-
--- over 997 bytes the reader answers 2, whatever follows
-read-too-many : (bits more : List Bytes) (list : List ℕ) → mostBytes < length (flatten bits) → readAnswer swiss (flatten bits ++ flatten more) list ≡ record { answer = refused (under 2 0); lent = list }
-read-too-many bits more list h =
-    refused-unlisted swiss (flatten bits ++ flatten more) list (under 2 0)
-    (too-many-refused (flatten bits ++ flatten more) (omega (arith, h, length-append (flatten bits) (flatten more))))
-
--- The state by value: however a payload is cut into bits, the close answers what the reader answers on all of it
 
 fresh-holds : Holds [] fresh
 unfolding fresh
@@ -40,18 +29,31 @@ fresh-room : (bits : List Bytes) → mostBytes ≤ length (handedAll fresh bits 
 unfolding fresh
 fresh-room bits = omega (arith, all-same-room fresh bits, length-replicate {A = ℕ} 997 0)
 
-module _ (bits : List Bytes) (list : List ℕ) where
-  pub however-cut : closeAnswer (handedAll fresh bits) list ≡ readAnswer swiss (flatten bits) list
-  however-cut = close-answers list (fresh-room bits) (all-hold bits fresh-holds)
+module _ (ed : Edition) where
+  -- one answer, and one content of the list
+  pub one-closing : (t : Scan) (list : List ℕ) (q r : Answer) (a b : List ℕ) → IsClosed ed t list q a → IsClosed ed t list r b → (q ≡ r) × (a ≡ b)
+  one-closing t list q r a b h k = (one-answer q r (h .answer ∙ sym (k .answer)), h .lent ∙ sym (k .lent))
 
-  pub closed-is-read : (r : Answer) (after : List ℕ) → IsClosed (handedAll fresh bits) list r after → IsRead swiss (flatten bits) list r after
-  closed-is-read r after h = record { answer = h .answer ∙ ap (λ d. d .answer) however-cut; lent = h .lent ∙ ap (λ d. d .lent) however-cut }
+  -- over 997 bytes the reader answers 2, whatever follows
+  read-too-many : (bits more : List Bytes) (list : List ℕ) → mostBytes < length (flatten bits) → readAnswer (swissIn ed) (flatten bits ++ flatten more) list ≡ record { answer = refused (under 2 0); lent = list }
+  read-too-many bits more list h =
+      refused-unlisted (swissIn ed) (flatten bits ++ flatten more) list (under 2 0)
+      (too-many-refused ed (flatten bits ++ flatten more) (omega (arith, h, length-append (flatten bits) (flatten more))))
 
-  -- once there are over 997 bytes it is 2, whatever follows
-  pub too-many-is-2 : (more : List Bytes) → mostBytes < length (flatten bits) → closeAnswer (handedAll (handedAll fresh bits) more) list ≡ record { answer = refused (under 2 0); lent = list }
-  too-many-is-2 more h =
-      close-answers list (omega (arith, fresh-room bits, all-same-room (handedAll fresh bits) more)) (all-hold more (all-hold bits fresh-holds))
-      ∙ read-too-many bits more list h
+  -- The state by value: however a payload is cut into bits, the close answers what the reader answers on all of it
+
+  module _ (bits : List Bytes) (list : List ℕ) where
+    pub however-cut : closeAnswer ed (handedAll fresh bits) list ≡ readAnswer (swissIn ed) (flatten bits) list
+    however-cut = close-answers ed list (fresh-room bits) (all-hold bits fresh-holds)
+
+    pub closed-is-read : (r : Answer) (after : List ℕ) → IsClosed ed (handedAll fresh bits) list r after → IsRead (swissIn ed) (flatten bits) list r after
+    closed-is-read r after h = record { answer = h .answer ∙ ap (λ d. d .answer) however-cut; lent = h .lent ∙ ap (λ d. d .lent) however-cut }
+
+    -- once there are over 997 bytes it is 2, whatever follows
+    pub too-many-is-2 : (more : List Bytes) → mostBytes < length (flatten bits) → closeAnswer ed (handedAll (handedAll fresh bits) more) list ≡ record { answer = refused (under 2 0); lent = list }
+    too-many-is-2 more h =
+        close-answers ed list (omega (arith, fresh-room bits, all-same-room (handedAll fresh bits) more)) (all-hold more (all-hold bits fresh-holds))
+        ∙ read-too-many bits more list h
 
 -- a bit without bytes changes nothing
 pub nothing-handed : (t : Scan) → mostBytes ≤ length (t .bytes) → t .len ≤ tooMany → handed t [] ≡ t
@@ -63,23 +65,24 @@ nothing-handed t room few = ⊎-elim over fits (over-or-in t [])
     fits : t .len + 0 ≤ mostIn (t .bytes) → handed t [] ≡ t
     fits h = handed-in t [] h ∙ rw (add-zero (t .len), take-append-drop (t .len) (t .bytes))
 
--- The room that is lent, of 998 bytes: however a payload is cut into bits, what is held gets its verdict, its answer and its places
+module _ (ed : Edition) where
+  -- The room that is lent, of 998 bytes: however a payload is cut into bits, what is held gets its verdict, its answer and its places
 
-module _ (room : Bytes) (enough : tooMany ≤ length room) (bits : List Bytes) where
-  lent-room : tooMany ≤ length (handedInto room bits .bytes)
-  lent-room = omega (arith, enough, all-same-room (heldIn room 0) bits)
+  module _ (room : Bytes) (enough : tooMany ≤ length room) (bits : List Bytes) where
+    lent-room : tooMany ≤ length (handedInto room bits .bytes)
+    lent-room = omega (arith, enough, all-same-room (heldIn room 0) bits)
 
-  pub lent-however-cut : verdict swiss (heldBy (handedInto room bits)) ≡ verdict swiss (flatten bits)
-  lent-however-cut = held-judged lent-room (all-hold bits (nothing-held room))
+    pub lent-however-cut : verdict (swissIn ed) (heldBy (handedInto room bits)) ≡ verdict (swissIn ed) (flatten bits)
+    lent-however-cut = held-judged ed lent-room (all-hold bits (nothing-held room))
 
-  pub lent-is-read : (list : List ℕ) → readAnswer swiss (heldBy (handedInto room bits)) list ≡ readAnswer swiss (flatten bits) list
-  lent-is-read list = held-read lent-room list (all-hold bits (nothing-held room))
+    pub lent-is-read : (list : List ℕ) → readAnswer (swissIn ed) (heldBy (handedInto room bits)) list ≡ readAnswer (swissIn ed) (flatten bits) list
+    lent-is-read list = held-read ed lent-room list (all-hold bits (nothing-held room))
 
-  -- once there are over 997 bytes it is 2, whatever follows
-  pub lent-too-many-is-2 : (more : List Bytes) (list : List ℕ) → mostBytes < length (flatten bits) → readAnswer swiss (heldBy (handedAll (handedInto room bits) more)) list ≡ record { answer = refused (under 2 0); lent = list }
-  lent-too-many-is-2 more list h =
-      held-read (omega (arith, lent-room, all-same-room (handedInto room bits) more)) list (all-hold more (all-hold bits (nothing-held room)))
-      ∙ read-too-many bits more list h
+    -- once there are over 997 bytes it is 2, whatever follows
+    pub lent-too-many-is-2 : (more : List Bytes) (list : List ℕ) → mostBytes < length (flatten bits) → readAnswer (swissIn ed) (heldBy (handedAll (handedInto room bits) more)) list ≡ record { answer = refused (under 2 0); lent = list }
+    lent-too-many-is-2 more list h =
+        held-read ed (omega (arith, lent-room, all-same-room (handedInto room bits) more)) list (all-hold more (all-hold bits (nothing-held room)))
+        ∙ read-too-many ed bits more list h
 
 -- Any room: what is held is the payload, or 998 notes that there is too much of it, for a bill or for the room
 

@@ -11,7 +11,8 @@ use Rattle.sieve.specs.Paper.{paper}
 use Rattle.sieve.specs.Reading.{Done, readAnswer}
 use Rattle.sieve.specs.Verdict.{under, Verdict, refused}
 use Rattle.swiss.specs.Limits.{mostBytes}
-use Rattle.swiss.specs.Swiss.{swiss}
+use Rattle.swiss.specs.declared.Edition.{Edition}
+use Rattle.swiss.specs.Swiss.{swissIn}
 use Rattle.scanner.specs.declared.Scan.{Scan}
 
 -- nothing is held, in a room of zero bytes
@@ -49,11 +50,11 @@ handedAll t (b ∷ bs) = handedAll (handed t b) bs
 abbrev pub handedInto : Bytes → List Bytes → Scan
 handedInto room bits = handedAll (heldIn room 0) bits
 
--- what is answered at the close, and what the list then holds: 2 where there were too many bytes, else what the reader answers on what is held
-unfoldable pub closeAnswer : Scan → List ℕ → Done Verdict
-closeAnswer t list = cond (ltb mostBytes (t .len)) (record { answer = refused (under 2 0); lent = list }) (readAnswer swiss (heldBy t) list)
+-- what is answered at the close under an edition, and what the list then holds: 2 where there were too many bytes, else what the reader answers on what is held
+unfoldable pub closeAnswer : Edition → Scan → List ℕ → Done Verdict
+closeAnswer e t list = cond (ltb mostBytes (t .len)) (record { answer = refused (under 2 0); lent = list }) (readAnswer (swissIn e) (heldBy t) list)
 
--- of a scan and a list, the answer r and the list afterwards
-pub record IsClosed (t : Scan) (list : List ℕ) (r : Answer) (after : List ℕ) : Type 0 where
-  pub answer : paper r ≡ closeAnswer t list .answer
-  pub lent : after ≡ closeAnswer t list .lent
+-- of an edition, a scan and a list, the answer r and the list afterwards
+pub record IsClosed (e : Edition) (t : Scan) (list : List ℕ) (r : Answer) (after : List ℕ) : Type 0 where
+  pub answer : paper r ≡ closeAnswer e t list .answer
+  pub lent : after ≡ closeAnswer e t list .lent

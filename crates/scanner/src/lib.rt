@@ -3,7 +3,7 @@ use reader::read;
 use runs::lay;
 use sieve::Answer;
 use sieve::Fault;
-use swiss::limits::MOST_BYTES;
+use swiss::Edition;
 ghost use mathlib.Core.Path.{_≡_};
 ghost use Rattle.scanner.specs.Scanning.{fresh, heldIn, handed, IsClosed};
 
@@ -16,10 +16,10 @@ pub fn hand_over(held: &mut [u8], length: usize, bit: &[u8]) -> usize
     ensures { λ r.
         ⌜ heldIn (now (held .exit)) r ≡ handed (heldIn (now (held .entry)) length) (now (bit .entry)) ⌝ }
 {
-    if MOST_BYTES < length {
+    if Edition::MOST_BYTES < length {
         return TOO_MANY;
     }
-    if MOST_BYTES - length < bit.len() {
+    if Edition::MOST_BYTES - length < bit.len() {
         return TOO_MANY;
     }
     let together = length + bit.len();
@@ -59,15 +59,15 @@ impl Scan {
         }
     }
 
-    // What the reader answers on all that arrived, with the places of its lines in the list.
-    pub fn close(self, list: &mut [u16]) -> Answer
-        ensures { λ r. ⌜ IsClosed self (now (list .entry)) r (now (list .exit)) ⌝ }
+    // What the reader answers under an edition on all that arrived, with the places of its lines in the list.
+    pub fn close(self, edition: Edition, list: &mut [u16]) -> Answer
+        ensures { λ r. ⌜ IsClosed edition self (now (list .entry)) r (now (list .exit)) ⌝ }
     {
         let n = self.len;
-        if MOST_BYTES < n {
+        if Edition::MOST_BYTES < n {
             return Answer::Refused(Fault::TooManyBytes);
         }
         let bytes = self.bytes;
-        read(&bytes[0..n], list)
+        read(&bytes[0..n], edition, list)
     }
 }

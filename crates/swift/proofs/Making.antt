@@ -16,7 +16,7 @@ use Rattle.swift.specs.Letters.{leads, laidLine, laidFrom}
 use Rattle.swift.specs.Portions.{rows, keptIn}
 use Rattle.swift.specs.Fields.{beneficiary, transaction, remittance, fields, contents}
 use Rattle.swift.specs.Paged.{Sheet, IsFollowed, AreMade}
-use Rattle.swift.proofs.Bounds.{kept-append, at-most-331}
+use Rattle.swift.proofs.Bounds.{kept-append, at-most-368}
 use Rattle.swift.proofs.Following.{blank, blank-sheet}
 
 -- lines with a break after each are lines parted by breaks, and a break
@@ -48,7 +48,7 @@ same-counts : {a b c d e f a' b' c' d' e' f' : ℕ} → a ≡ a' → b ≡ b' �
     → _≡_ {A = Counts} (record { bytes = a; beneficiary = b; transaction = c; remittance = d; cut = e; replaced = f }) (record { bytes = a'; beneficiary = b'; transaction = c'; remittance = d'; cut = e'; replaced = f' })
 same-counts h i j k l m = rw (h, i, j, k, l, m)
 
-module _ (ls : List Bytes) {b₀ b₁ b₂ : Bytes} {p₁ p₂ : Page} (i : IsFollowed b₀ blank 4 (beneficiary ls) b₁ p₁) (j : IsFollowed b₁ p₁ 1 (transaction ls) b₂ p₂) where
+module _ (ls : List Bytes) {b₀ b₁ b₂ : Bytes} {p₁ p₂ : Page} (i : IsFollowed b₀ blank 5 (beneficiary ls) b₁ p₁) (j : IsFollowed b₁ p₁ 1 (transaction ls) b₂ p₂) where
   first-sheet : Sheet b₁ p₁ (beneficiary ls)
   first-sheet = i .sheet [] blank-sheet
 
@@ -76,7 +76,7 @@ module _ (ls : List Bytes) {b₀ b₁ b₂ : Bytes} {p₁ p₂ : Page} (i : IsFo
     pub at-the-last : p₃ .at ≡ length (contents ls) + 2
     at-the-last = third-sheet .paged .size ∙ ap length closed ∙ length-append (contents ls) (breakBytes CrLf)
 
-    pub all-made : length b₀ ≡ 333 → AreMade ls b₃ (record { bytes = p₃ .at - 2; beneficiary = p₁ .lines; transaction = p₂ .lines - p₁ .lines; remittance = p₃ .lines - p₂ .lines; cut = p₃ .cut; replaced = p₃ .replaced })
+    pub all-made : length b₀ ≡ 370 → AreMade ls b₃ (record { bytes = p₃ .at - 2; beneficiary = p₁ .lines; transaction = p₂ .lines - p₁ .lines; remittance = p₃ .lines - p₂ .lines; cut = p₃ .cut; replaced = p₃ .replaced })
     all-made size =
         let bytes : p₃ .at - 2 ≡ length (contents ls) = omega (arith, at-the-last) in
         record {
@@ -92,4 +92,4 @@ pub as-told : {ls : List Bytes} {after : Bytes} {r : Counts} → AreMade ls afte
 as-told is = ap (λ (c : Counts). c .bytes) (is .counts)
 
 pub in-bounds : {ls : List Bytes} {after : Bytes} {r : Counts} → AreMade ls after r → r .bytes ≤ length after
-in-bounds {ls} is = omega (arith, as-told is, at-most-331 ls, is .size)
+in-bounds {ls} is = omega (arith, as-told is, at-most-368 ls, is .size)

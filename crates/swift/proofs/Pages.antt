@@ -83,7 +83,7 @@ module _ (b b₁ b₂ : Bytes) (page : Page) (row line : Row) (ready : Ready b p
   pub row-laid : b₁ ≡ take (page .at) b ++ (w ++ drop (page .at + length w) b) → length b₁ ≡ length b → b₂ ≡ take (page .at + row .length) b₁ ++ (end ++ drop (page .at + row .length + 2) b₁)
       → IsLaid b page row b₂ (record { at = page .at + row .length + 2; lines = page .lines + 1; replaced = page .replaced + line .replaced; cut = page .cut })
   row-laid is₁ long is₂ =
-      let fits : page .at + row .length + 2 ≤ 333 = omega (arith, ready .roomy .bytes, ready .more, ok .few) in
+      let fits : page .at + row .length + 2 ≤ 370 = omega (arith, ready .roomy .bytes, ready .more, ok .few) in
       let first : take (page .at + row .length) b₁ ≡ take (page .at) b ++ w = rw is₁ (laid-behind b w (page .at) (row .length) size-w (omega (arith, ready .size))) in
       let second : take (page .at + row .length + 2) b₂ ≡ (take (page .at) b ++ w) ++ end = rw is₂ (laid-behind b₁ end (page .at + row .length) 2 refl (omega (arith, long, ready .size))) ∙ ap (λ (r : Bytes). r ++ end) first in
       record {
@@ -113,7 +113,7 @@ row-put {b} {t₁} {t₂} {page} {row} {line} ready ok is some is₁ is₂ =
     let w = take n (line .bytes) in
     let b₁ = putMid at (length b - at) b t₁ in
     let size : length w ≡ n = length-take-le n (line .bytes) (omega (arith, is .room, ok .few)) in
-    let fits : at + n + 2 ≤ 333 = omega (arith, ready .roomy .bytes, ready .more, ok .few) in
+    let fits : at + n + 2 ≤ 370 = omega (arith, ready .roomy .bytes, ready .more, ok .few) in
     let first : b₁ ≡ take at b ++ (w ++ drop (at + length w) b) = ap (putMid at (length b - at) b) (rw (sub-zero n) at is₁) ∙ tail-laid at b w (omega (arith, ready .size)) in
     let long : length b₁ ≡ length b = ap length first ∙ long-as-before b w at (omega (arith, ready .size)) in
     row-laid b b₁ _ page row line ready ok is some first long (ap (putMid (at + n) (length b₁ - (at + n)) b₁) is₂ ∙ tail-laid (at + n) b₁ end (omega (arith, ready .size)))
@@ -156,7 +156,7 @@ line-put {buffer} {after} {page} {line} {r} is =
     }
 
 -- a page after a row has room for another, if it had room for two
-pub then-ready : {b after : Bytes} {page r : Page} {row : Row} → Ready b page → IsLaid b page row after r → page .lines + 1 < 9 → Ready after r
+pub then-ready : {b after : Bytes} {page r : Page} {row : Row} → Ready b page → IsLaid b page row after r → page .lines + 1 < 10 → Ready after r
 then-ready ready is h = record { size = is .size ∙ ready .size; roomy = is .roomy; more = omega (arith, is .more) }
 
 -- four rows, one after the other

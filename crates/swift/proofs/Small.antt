@@ -9,13 +9,14 @@ use lib.Dec.{eqb, lit≤}
 use lib.ListN.{length, length-append, length-map}
 use Rattle.sieve.specs.Bytes.{Bytes, ascii, same}
 use Rattle.sieve.specs.Lines.{cut, linesOf}
-use Rattle.sieve.specs.Rules.{line, noText}
+use Rattle.sieve.specs.Rules.{line, noText, is}
 use Rattle.sieve.specs.Verdict.{findings, first}
-use Rattle.swiss.specs.Limits.{noReference}
-use Rattle.swiss.specs.Swiss.{swiss}
+use Rattle.swiss.specs.Limits.{combined, noReference}
+use Rattle.swiss.specs.declared.Edition.{Edition}
+use Rattle.swiss.specs.Swiss.{swissIn}
 use Rattle.swift.specs.Letters.{replacedFrom, replaced}
 use Rattle.swift.specs.Portions.{Portion, onLines, keptIn, replacedIn}
-use Rattle.swift.specs.Fields.{prefixed, spaced, streetText, townText, beneficiary, withComma, transaction, remittance, fields, countsOf}
+use Rattle.swift.specs.Fields.{prefixed, spaced, streetText, townText, structuredLines, combinedLines, beneficiary, withComma, transaction, remittance, fields, countsOf}
 use Rattle.swift.specs.Promised.{charactersIn, AreSmall}
 use Rattle.swift.proofs.Bounds.{leads-short, few-lines}
 use Rattle.swift.proofs.Filling.{nothing-lost}
@@ -57,17 +58,22 @@ town-short : (c p t : Bytes) → length (townText c p t) ≤ length c + length p
 town-short c p t = omega (arith, length-append c (ascii "/" ++ (p ++ (ascii " " ++ t))), length-append p (ascii " " ++ t))
 
 -- of a bill that the reader accepts
-module _ (p : Bytes) (nothing : first (findings swiss p) ≡ none) where
+module _ (e : Edition) (p : Bytes) (nothing : first (findings (swissIn e) p) ≡ none) where
   abbrev ls : List Bytes
   ls = linesOf (cut p)
 
   short : (n : ℕ) → 1 ≤ n → n ≤ 34 → length (line n ls) ≤ 1024
-  short n lo hi = short-line p n nothing lo hi
+  short n lo hi = short-line e p n nothing lo hi
 
   few-in-beneficiary : charactersIn (beneficiary ls) ≤ 8192
   unfolding charactersIn beneficiary
-  few-in-beneficiary =
-      omega (arith, leads-short (ascii "/" ++ line 4 ls), leads-short (ascii "1/" ++ line 6 ls), leads-short (streetText (line 7 ls) (line 8 ls)), street-short (line 7 ls) (line 8 ls), leads-short (townText (line 11 ls) (line 9 ls) (line 10 ls)), town-short (line 11 ls) (line 9 ls) (line 10 ls), short 4 (lit≤ tt) (lit≤ tt), short 6 (lit≤ tt) (lit≤ tt), short 7 (lit≤ tt) (lit≤ tt), short 8 (lit≤ tt) (lit≤ tt), short 9 (lit≤ tt) (lit≤ tt), short 10 (lit≤ tt) (lit≤ tt), short 11 (lit≤ tt) (lit≤ tt))
+  few-in-beneficiary = omega (arith, leads-short (ascii "/" ++ line 4 ls), short 4 (lit≤ tt) (lit≤ tt), go (is 5 combined ls))
+    where
+      go : (b : Bool) → charactersIn (cond b (combinedLines ls) (structuredLines ls)) ≤ 7100
+      go true =
+          omega (arith, leads-short (line 6 ls), leads-short (line 7 ls), leads-short (line 8 ls), leads-short (line 11 ls), short 6 (lit≤ tt) (lit≤ tt), short 7 (lit≤ tt) (lit≤ tt), short 8 (lit≤ tt) (lit≤ tt), short 11 (lit≤ tt) (lit≤ tt))
+      go false =
+          omega (arith, leads-short (ascii "1/" ++ line 6 ls), leads-short (streetText (line 7 ls) (line 8 ls)), street-short (line 7 ls) (line 8 ls), leads-short (townText (line 11 ls) (line 9 ls) (line 10 ls)), town-short (line 11 ls) (line 9 ls) (line 10 ls), short 6 (lit≤ tt) (lit≤ tt), short 7 (lit≤ tt) (lit≤ tt), short 8 (lit≤ tt) (lit≤ tt), short 9 (lit≤ tt) (lit≤ tt), short 10 (lit≤ tt) (lit≤ tt), short 11 (lit≤ tt) (lit≤ tt))
 
   few-in-transaction : charactersIn (transaction ls) ≤ 2048
   unfolding charactersIn transaction
@@ -88,11 +94,11 @@ module _ (p : Bytes) (nothing : first (findings swiss p) ≡ none) where
 
   pub small-counts : AreSmall (countsOf ls)
   small-counts =
-      let (four, one, four-more) = few-lines ls in
+      let (five, one, four) = few-lines ls in
       record {
-        beneficiary = omega (arith, four);
+        beneficiary = omega (arith, five);
         transaction = omega (arith, one);
-        remittance = omega (arith, four-more);
+        remittance = omega (arith, four);
         cut = omega (arith, nothing-lost (fields ls), few-characters);
         replaced = omega (arith, replaced-in-few (keptIn (fields ls)), nothing-lost (fields ls), few-characters);
       }

@@ -10,6 +10,8 @@ use Rattle.sieve.specs.Paper.{paperFault}
 use Rattle.sieve.specs.Rules.{Layout, isEmpty}
 use Rattle.sieve.specs.Reading.{Done, noRoom}
 use Rattle.sieve.specs.Verdict.{Refusal, under, found, findings, first}
+use Rattle.swiss.specs.declared.Edition.{Edition}
+use Rattle.swiss.specs.Swiss.{swissIn}
 use Rattle.swift.specs.declared.Counts.{Counts}
 use Rattle.swift.specs.declared.Mapped.{Mapped}
 use Rattle.swift.specs.declared.Mapped.the-variants.{Laid, Refused}
@@ -49,3 +51,7 @@ paperMapped (Refused f) = not-mapped (paperFault f)
 pub record IsMapped (L : Layout) (p dest : Bytes) (r : Mapped) (after : Bytes) : Type 0 where
   pub answer : paperMapped r ≡ fieldsAnswer L p dest .answer
   pub lent : after ≡ fieldsAnswer L p dest .lent
+
+-- the same of a payload that an edition accepts, whichever it is
+abbrev pub IsMappedBill : Bytes → Bytes → Mapped → Bytes → Type 0
+IsMappedBill p dest r after = (e : Edition) → first (findings (swissIn e) p) ≡ none → IsMapped (swissIn e) p dest r after

@@ -8,7 +8,8 @@ use Rattle.sieve.specs.declared.Break.the-variants.{CrLf}
 use Rattle.sieve.specs.Bytes.{Bytes}
 use Rattle.sieve.specs.Pointing.{beforeBreaks}
 use Rattle.sieve.specs.Verdict.{findings, first}
-use Rattle.swiss.specs.Swiss.{swiss}
+use Rattle.swiss.specs.declared.Edition.{Edition}
+use Rattle.swiss.specs.Swiss.{swissIn}
 use Rattle.places.specs.Listed.{listed}
 use Rattle.swift.specs.declared.Counts.{Counts}
 use Rattle.swift.specs.declared.Line.{Line}
@@ -24,11 +25,11 @@ pub record Roomy (page : Page) : Type 0 where
   pub bytes : page .at ≤ 37 * page .lines
   pub fewer : page .replaced ≤ 36 * page .lines
 
--- a page with room for a line more, on a buffer for nine lines
+-- a page with room for a line more, on a buffer for ten lines
 pub record Ready (buffer : Bytes) (page : Page) : Type 0 where
-  pub size : length buffer ≡ 333
+  pub size : length buffer ≡ 370
   pub roomy : Roomy page
-  pub more : page .lines < 9
+  pub more : page .lines < 10
 
 -- the page holds these lines, each with CR LF after it
 pub record Paged (buffer : Bytes) (page : Page) (ls : List Bytes) : Type 0 where
@@ -69,12 +70,12 @@ pub record AreLaid (buffer : Bytes) (page : Page) (four : List Row) (after : Byt
   pub cut : r .cut ≡ page .cut
   pub paged : (ls : List Bytes) (t : ℕ → Bytes) → Paged buffer page ls → ((d : Row) (k : ℕ) → k < 4 → Holds (getD four k d) (t k)) → Paged after r (ls ++ (rows 1 (t 0) ++ (rows 1 (t 1) ++ (rows 1 (t 2) ++ rows 1 (t 3)))))
 
--- a page with room for n lines more, on a buffer for nine; of each line at most 8192 characters are cut
+-- a page with room for n lines more, on a buffer for ten; of each line at most 8192 characters are cut
 pub record Open (buffer : Bytes) (page : Page) (n : ℕ) : Type 0 where
-  pub size : length buffer ≡ 333
+  pub size : length buffer ≡ 370
   pub roomy : Roomy page
-  pub more : page .lines + n ≤ 9
-  pub cut-few : page .cut + 8192 * n ≤ 8192 * 9
+  pub more : page .lines + n ≤ 10
+  pub cut-few : page .cut + 8192 * n ≤ 8192 * 10
 
 -- portions were laid behind what lay on the page, on at most n lines
 pub record IsFollowed (buffer : Bytes) (page : Page) (n : ℕ) (qs : List Portion) (after : Bytes) (r : Page) : Type 0 where
@@ -93,13 +94,14 @@ remitted (suc n) s m = record { text = s; lines = 1 } ∷ record { text = m; lin
 pub record IsRemitted (buffer : Bytes) (page : Page) (reference : Line) (first : ℕ) (text : Bytes) (after : Bytes) (r : Page) : Type 0 where
   pub follows : (s : Bytes) → Lined reference s → (first ≡ 0 → s ≡ []) → IsFollowed buffer page 4 (remitted first s (leads text)) after r
 
--- a bill that the reader accepts, and the places of its lines
+-- a bill that the reader accepts under an edition, and the places of its lines
 pub record Payable (p : Bytes) (places : List ℕ) : Type 0 where
   pub listed : places ≡ listed p
-  pub kept : first (findings swiss p) ≡ none
+  pub edition : Edition
+  pub kept : first (findings (swissIn edition) p) ≡ none
 
 -- all fields were laid, with CR LF after the last line too: the counts are theirs, and before those two bytes lie the contents
 pub record AreMade (ls : List Bytes) (after : Bytes) (r : Counts) : Type 0 where
-  pub size : length after ≡ 333
+  pub size : length after ≡ 370
   pub counts : r ≡ countsOf ls
   pub laid : take (r .bytes) after ≡ contents ls

@@ -16,7 +16,9 @@ use Rattle.sieve.specs.Mod97.{number, remainder97}
 use Rattle.sieve.specs.Mod10.{carry, checkDigit}
 use Rattle.sieve.specs.Verdict.{findings, first}
 use Rattle.swiss.specs.Base.{B}
-use Rattle.swiss.specs.Swiss.{rules, swiss}
+use Rattle.swiss.specs.declared.Edition.{Edition}
+use Rattle.swiss.specs.declared.Edition.the-variants.{V22, V24}
+use Rattle.swiss.specs.Swiss.{rules, swissIn}
 use Rattle.swift.specs.Letters.{leads, inX, barred, replaced, laidFrom, replacedFrom}
 use Rattle.swift.specs.Portions.{rows, keptIn, cutIn, replacedIn}
 use Rattle.swift.specs.Fields.{beneficiary, transaction, remittance}
@@ -35,28 +37,34 @@ told a b c cut replaced = record { beneficiary = a; transaction = b; remittance 
 
 -- room for the longest
 abbrev room : Bytes
-room = times 298 (ascii "x")
+room = times 302 (ascii "x")
 
 abbrev laidWith : Bytes → Told → Mapping → Bool
 laidWith w t (not-mapped r) = false
 laidWith w t (mapped k) = eqb (k .bytes) (length w) && eqb (k .beneficiary) (t .beneficiary) && eqb (k .transaction) (t .transaction) && eqb (k .remittance) (t .remittance) && eqb (k .cut) (t .cut) && eqb (k .replaced) (t .replaced)
 
 -- of a bill, the lines that are laid, parted by `|` here, and what is told; what lies behind them stays
-abbrev pub lays : Break → List Bytes → String → Told → Bool
-lays k ls text t =
+abbrev pub laysIn : Edition → Break → List Bytes → String → Told → Bool
+laysIn e k ls text t =
     let w = joined CrLf (lines text) in
-    let d = fieldsAnswer swiss (joined k ls) room in
+    let d = fieldsAnswer (swissIn e) (joined k ls) room in
     laidWith w t (d .answer) && same (d .lent) (over room w)
+
+abbrev pub lays : Break → List Bytes → String → Told → Bool
+lays = laysIn V24
 
 abbrev refusedAs : ℕ → ℕ → Mapping → Bool
 refusedAs n i (mapped k) = false
 refusedAs n i (not-mapped r) = eqb (r .number) n && eqb (r .line) i
 
 -- a bill that is refused with so much room, and nothing is changed
-abbrev pub refuses : ℕ → ℕ → ℕ → List Bytes → Bool
-refuses size n i ls =
-    let d = fieldsAnswer swiss (joined Lf ls) (take size room) in
+abbrev pub refusesIn : Edition → ℕ → ℕ → ℕ → List Bytes → Bool
+refusesIn e size n i ls =
+    let d = fieldsAnswer (swissIn e) (joined Lf ls) (take size room) in
     refusedAs n i (d .answer) && same (d .lent) (take size room)
+
+abbrev pub refuses : ℕ → ℕ → ℕ → List Bytes → Bool
+refuses = refusesIn V24
 
 -- B under QRR, and under NON
 abbrev Q : List Bytes
@@ -64,6 +72,10 @@ Q = put 4 "CH6431961000004421557" (put 28 "QRR" (put 29 "21000000000313947143000
 
 abbrev N : List Bytes
 N = put 28 "NON" (put 29 "" B)
+
+-- with an address of type K, under NON
+abbrev K : List Bytes
+K = put 5 "K" (put 7 "Hofweg 4" (put 8 "8000 Seldwyla" (put 9 "" (put 10 "" N))))
 
 abbrev uUmlaut : Bytes
 uUmlaut = 0xC3 ∷ 0xBC ∷ []
@@ -81,6 +93,13 @@ longest = putBytes 6 (times 33 (ascii "n")) (putBytes 7 (times 33 (ascii "s")) (
 
 abbrev longestText : String
 longestText = "/CH5800791123000889012|1/nnnnnnnnnnnnnnnnnnnnnnnnnnnnnnnnn|2/sssssssssssssssssssssssssssssssss|3/CH/8000 ttttttttttttttttttttttttt|CHF999999999,99|mmmmmmmmmmmmmmmmmmmmmmmmmmmmmmmmmmm|mmmmmmmmmmmmmmmmmmmmmmmmmmmmmmmmmmm|mmmmmmmmmmmmmmmmmmmmmmmmmmmmmmmmmmm|mmmmmmmmmmmmmmmmmmmmmmmmmmmmmmmmmmm"
+
+-- the same of type K
+abbrev longestK : List Bytes
+longestK = putBytes 6 (times 35 (ascii "n")) (putBytes 7 (times 35 (ascii "s")) (putBytes 8 (times 35 (ascii "t")) (put 19 "999999999.99" (putBytes 30 (times 140 (ascii "m")) K))))
+
+abbrev longestTextK : String
+longestTextK = "/CH5800791123000889012|nnnnnnnnnnnnnnnnnnnnnnnnnnnnnnnnnnn|sssssssssssssssssssssssssssssssssss|ttttttttttttttttttttttttttttttttttt|CH|CHF999999999,99|mmmmmmmmmmmmmmmmmmmmmmmmmmmmmmmmmmm|mmmmmmmmmmmmmmmmmmmmmmmmmmmmmmmmmmm|mmmmmmmmmmmmmmmmmmmmmmmmmmmmmmmmmmm|mmmmmmmmmmmmmmmmmmmmmmmmmmmmmmmmmmm"
 
 pub examples : Bool
 examples =
@@ -115,6 +134,29 @@ examples =
     && refuses 0 16 19 (put 19 "" B)
     && refuses 114 15 0 B
 
-pub the-examples : T examples
-unfolding examples fieldsAnswer fieldFindings swiss rules latin cut breakWidth passes walk badPlace characters lineFeeds firstSuch findings first number remainder97 carry checkDigit flatten leads inX barred replaced laidFrom replacedFrom rows keptIn cutIn replacedIn beneficiary transaction remittance
+-- what edition 2.2 accepts besides
+pub older : Bool
+older =
+    -- type K: no prefix; address line 1 only if it is filled
+    laysIn V22 Lf K "/CH5800791123000889012|Schule Muster|Hofweg 4|8000 Seldwyla|CH|CHF199,95|Kurs Mai" (told 5 1 1 0 0)
+    && laysIn V22 CrLf (put 7 "" K) "/CH5800791123000889012|Schule Muster|8000 Seldwyla|CH|CHF199,95|Kurs Mai" (told 4 1 1 0 0)
+    -- a colon or hyphen that begins one of its lines becomes a full stop
+    && laysIn V22 Lf (put 6 ":-. @" (put 7 "-4" (put 8 ":8000" K))) "/CH5800791123000889012|.-. .|.4|.8000|CH|CHF199,95|Kurs Mai" (told 5 1 1 0 4)
+    -- each is cut at 35 characters, each letter ü being one
+    && laysIn V22 Lf (putBytes 6 (times 36 uUmlaut) (putBytes 7 (times 70 (ascii "s")) (putBytes 8 (times 37 (ascii "t")) K))) "/CH5800791123000889012|...................................|sssssssssssssssssssssssssssssssssss|ttttttttttttttttttttttttttttttttttt|CH|CHF199,95|Kurs Mai" (told 5 1 1 38 35)
+    -- 302 bytes
+    && laysIn V22 Lf longestK longestTextK (told 5 1 4 0 0)
+    && eqb (length (joined CrLf (lines longestTextK))) 302
+    && refusesIn V22 301 15 0 longestK
+    -- type S as in 2.4; QRR with EUR
+    && laysIn V22 Lf B "/CH5800791123000889012|1/Schule Muster|2/Hofweg 4|3/CH/8000 Seldwyla|CHF199,95|SCOR/RF18539007547034|Kurs Mai" (told 4 1 2 0 0)
+    && laysIn V22 Lf (put 20 "EUR" Q) "/CH6431961000004421557|1/Schule Muster|2/Hofweg 4|3/CH/8000 Seldwyla|EUR199,95|QRR/210000000003139471430009017|Kurs Mai" (told 4 1 2 0 0)
+    -- both of which 2.4 refuses; and what 2.2 refuses
+    && refusesIn V24 302 10 5 K
+    && refusesIn V24 302 12 28 (put 20 "EUR" Q)
+    && refusesIn V22 302 7 9 (put 9 "8000" K)
+    && refusesIn V22 302 16 19 (put 19 "" K)
+
+pub the-examples : T (examples && older)
+unfolding examples older fieldsAnswer fieldFindings rules latin cut breakWidth passes walk badPlace characters lineFeeds firstSuch findings first number remainder97 carry checkDigit flatten leads inX barred replaced laidFrom replacedFrom rows keptIn cutIn replacedIn beneficiary transaction remittance
 the-examples = tt

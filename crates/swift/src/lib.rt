@@ -1,10 +1,11 @@
-// SWIFT's fields 59a, 32B and 70 for an accepted bill.
+// SWIFT's fields 59a, 32B and 70 for a bill that an edition accepts.
 use runs::characters;
 use runs::lay;
 use runs::same;
 use sieve::Answer;
 use sieve::Fault;
-use swiss_judge::judge;
+use swiss::Edition;
+use swiss_judge::judge_in;
 ghost use mathlib.Core.Path.{_≡_};
 ghost use mathlib.Core.Bool.{true, not};
 ghost use mathlib.Core.List.{[], _∷_, _++_};
@@ -14,13 +15,13 @@ ghost use Rattle.sieve.specs.Bytes.{within};
 ghost use Rattle.sieve.specs.Lines.{cut, linesOf};
 ghost use Rattle.sieve.specs.Rules.{line};
 ghost use Rattle.swiss.specs.Forms.{amount};
-ghost use Rattle.swiss.specs.Swiss.{swiss};
+ghost use Rattle.swiss.specs.Swiss.{swissIn};
 ghost use Rattle.swift.specs.Letters.{inX, leads};
 ghost use Rattle.swift.specs.Portions.{onLines};
 ghost use Rattle.swift.specs.Rowed.{Fillable, IsFilled, IsBegun, Lined, IsAdded, Small, IsRows};
 ghost use Rattle.swift.specs.Paged.{Ready, IsLaid, IsPut, AllFillable, AreLaid, IsRemitted, Open, IsFollowed, Payable, AreMade};
-ghost use Rattle.swift.specs.Fields.{streetText, townText, accountLines, streetLine, townLine, beneficiary, withComma, transaction, remittanceOf, remittance};
-ghost use Rattle.swift.specs.Answering.{IsMapped};
+ghost use Rattle.swift.specs.Fields.{streetText, townText, streetLine, townLine, structuredLines, addressLines, combinedLines, beneficiary, withComma, transaction, remittanceOf, remittance};
+ghost use Rattle.swift.specs.Answering.{IsMapped, IsMappedBill};
 
 // What is told of the fields that were laid.
 pub struct Counts {
@@ -194,7 +195,7 @@ fn lay_row(buffer: &mut [u8], page: Page, row: Row) -> Page
 
 // Lays a line on the page, and counts what was cut of it.
 fn lay_line(buffer: &mut [u8], page: Page, line: Line) -> Page
-    requires { ⌜ Ready (now buffer) page × Small line 8192 × (page .cut ≤ 65536) ⌝ }
+    requires { ⌜ Ready (now buffer) page × Small line 8192 × (page .cut ≤ 73728) ⌝ }
     ensures { λ r. ⌜ IsPut (now (buffer .entry)) page line (now (buffer .exit)) r ⌝ }
 {
     let row = line.row;
@@ -289,7 +290,7 @@ fn fill_rows(reference: Row, first: usize, message: &[u8]) -> FourRows
 
 // Lays four rows, one after the other.
 fn lay_rows(buffer: &mut [u8], page: Page, rows: [Row; 4]) -> Page
-    requires { ⌜ Ready (now buffer) page × (page .lines ≤ 5) × AllFillable rows ⌝ }
+    requires { ⌜ Ready (now buffer) page × (page .lines ≤ 6) × AllFillable rows ⌝ }
     ensures { λ r. ⌜ AreLaid (now (buffer .entry)) page rows (now (buffer .exit)) r ⌝ }
 {
     let first = rows[0];
@@ -310,7 +311,7 @@ fn lay_remittance(
     first: usize,
     message: &[u8],
 ) -> Page
-    requires { ⌜ Ready (now buffer) page × (page .lines ≤ 5) × (page .cut ≤ 65536) ⌝ }
+    requires { ⌜ Ready (now buffer) page × (page .lines ≤ 6) × (page .cut ≤ 73728) ⌝ }
     requires { ⌜ Small reference 8192 × (first ≤ 1) × (length (now message) ≤ 1024) ⌝ }
     ensures { λ r. ⌜ IsRemitted (now (buffer .entry)) page reference first (now (message .entry)) (now (buffer .exit)) r ⌝ }
 {
@@ -336,7 +337,7 @@ fn lay_reference(
     reference: &[u8],
     message: &[u8],
 ) -> Page
-    requires { ⌜ Ready (now buffer) page × (page .lines ≤ 5) × (page .cut ≤ 65536) ⌝ }
+    requires { ⌜ Ready (now buffer) page × (page .lines ≤ 6) × (page .cut ≤ 73728) ⌝ }
     requires { ⌜ (length (now kind) ≤ 1024) × (length (now reference) ≤ 1024) × (length (now message) ≤ 1024) ⌝ }
     ensures { λ r.
         ⌜ IsFollowed (now (buffer .entry)) page 4 (remittanceOf (now (kind .entry)) (now (reference .entry)) (now (message .entry)))
@@ -361,16 +362,22 @@ fn lay_text(buffer: &mut [u8], page: Page, prefix: &[u8], text: &[u8]) -> Page
     lay_line(buffer, page, line)
 }
 
-// Lays the lines of an accepted bill's account and of its name.
-fn lay_account(buffer: &mut [u8], page: Page, payload: &[u8], places: &[u16; 68]) -> Page
-    requires { ⌜ Open (now buffer) page 2 × Payable (now payload) (now places) ⌝ }
+// Lays line n of an accepted bill behind a prefix.
+fn lay_bill_line(
+    buffer: &mut [u8],
+    page: Page,
+    payload: &[u8],
+    places: &[u16; 68],
+    n: usize,
+    prefix: &[u8],
+) -> Page
+    requires { ⌜ Open (now buffer) page 1 × Payable (now payload) (now places) ⌝ }
+    requires { ⌜ (1 ≤ n) × (n ≤ 34) × (length (now prefix) ≤ 1024) ⌝ }
     ensures { λ r.
-        ⌜ IsFollowed (now (buffer .entry)) page 2 (accountLines (linesOf (cut (now (payload .entry))))) (now (buffer .exit)) r ⌝ }
+        ⌜ IsFollowed (now (buffer .entry)) page 1 (onLines 1 (now (prefix .entry) ++ line n (linesOf (cut (now (payload .entry))))) ∷ [])
+        (now (buffer .exit)) r ⌝ }
 {
-    let account = places::line(payload, places, 4);
-    let next = lay_text(buffer, page, b"/", account);
-    let name = places::line(payload, places, 6);
-    lay_text(buffer, next, b"1/", name)
+    lay_text(buffer, page, prefix, places::line(payload, places, n))
 }
 
 // Lays the line of its street and number.
@@ -398,15 +405,50 @@ fn lay_town(buffer: &mut [u8], page: Page, payload: &[u8], places: &[u16; 68]) -
     lay_line(buffer, page, line)
 }
 
-// Lays field 59a of an accepted bill: account and name, street and number, town.
-fn lay_beneficiary(buffer: &mut [u8], page: Page, payload: &[u8], places: &[u16; 68]) -> Page
-    requires { ⌜ Open (now buffer) page 4 × Payable (now payload) (now places) ⌝ }
+// Lays what follows the account in field 59a, of an address of type S: name, street and number, town.
+fn lay_structured(buffer: &mut [u8], page: Page, payload: &[u8], places: &[u16; 68]) -> Page
+    requires { ⌜ Open (now buffer) page 3 × Payable (now payload) (now places) ⌝ }
     ensures { λ r.
-        ⌜ IsFollowed (now (buffer .entry)) page 4 (beneficiary (linesOf (cut (now (payload .entry))))) (now (buffer .exit)) r ⌝ }
+        ⌜ IsFollowed (now (buffer .entry)) page 3 (structuredLines (linesOf (cut (now (payload .entry))))) (now (buffer .exit)) r ⌝ }
 {
-    let named = lay_account(buffer, page, payload, places);
+    let named = lay_bill_line(buffer, page, payload, places, 6, b"1/");
     let housed = lay_street(buffer, named, payload, places);
     lay_town(buffer, housed, payload, places)
+}
+
+// Lays the two address lines of an address of type K.
+fn lay_address_lines(buffer: &mut [u8], page: Page, payload: &[u8], places: &[u16; 68]) -> Page
+    requires { ⌜ Open (now buffer) page 2 × Payable (now payload) (now places) ⌝ }
+    ensures { λ r.
+        ⌜ IsFollowed (now (buffer .entry)) page 2 (addressLines (linesOf (cut (now (payload .entry))))) (now (buffer .exit)) r ⌝ }
+{
+    let first = lay_bill_line(buffer, page, payload, places, 7, b"");
+    lay_bill_line(buffer, first, payload, places, 8, b"")
+}
+
+// Lays what follows the account in field 59a, of an address of type K: name, address lines, country.
+fn lay_combined(buffer: &mut [u8], page: Page, payload: &[u8], places: &[u16; 68]) -> Page
+    requires { ⌜ Open (now buffer) page 4 × Payable (now payload) (now places) ⌝ }
+    ensures { λ r.
+        ⌜ IsFollowed (now (buffer .entry)) page 4 (combinedLines (linesOf (cut (now (payload .entry))))) (now (buffer .exit)) r ⌝ }
+{
+    let named = lay_bill_line(buffer, page, payload, places, 6, b"");
+    let housed = lay_address_lines(buffer, named, payload, places);
+    lay_bill_line(buffer, housed, payload, places, 11, b"")
+}
+
+// Lays field 59a of an accepted bill: its account, and what follows for the type of its address.
+fn lay_beneficiary(buffer: &mut [u8], page: Page, payload: &[u8], places: &[u16; 68]) -> Page
+    requires { ⌜ Open (now buffer) page 5 × Payable (now payload) (now places) ⌝ }
+    ensures { λ r.
+        ⌜ IsFollowed (now (buffer .entry)) page 5 (beneficiary (linesOf (cut (now (payload .entry))))) (now (buffer .exit)) r ⌝ }
+{
+    let paid = lay_bill_line(buffer, page, payload, places, 4, b"/");
+    let kind = places::line(payload, places, 5);
+    if same(kind, &Edition::COMBINED) {
+        return lay_combined(buffer, paid, payload, places);
+    }
+    lay_structured(buffer, paid, payload, places)
 }
 
 // Lays field 32B of an accepted bill that has an amount.
@@ -434,9 +476,9 @@ fn lay_information(buffer: &mut [u8], page: Page, payload: &[u8], places: &[u16;
     lay_reference(buffer, page, kind, reference, message)
 }
 
-// Lays all three fields of an accepted bill that has an amount, in the front of a buffer for nine lines, and counts.
+// Lays all three fields of an accepted bill that has an amount, in the front of a buffer for ten lines, and counts.
 fn lay_fields(buffer: &mut [u8], payload: &[u8], places: &[u16; 68]) -> Counts
-    requires { ⌜ (length (now buffer) ≡ 333) × Payable (now payload) (now places) ⌝ }
+    requires { ⌜ (length (now buffer) ≡ 370) × Payable (now payload) (now places) ⌝ }
     requires { ⌜ amount (line 19 (linesOf (cut (now payload)))) ≡ true ⌝ }
     ensures { λ r. ⌜ AreMade (linesOf (cut (now (payload .entry)))) (now (buffer .exit)) r ⌝ }
 {
@@ -463,13 +505,13 @@ fn lay_fields(buffer: &mut [u8], payload: &[u8], places: &[u16; 68]) -> Counts
 // amount, and the destination room.
 fn map_bill(payload: &[u8], places: &[u16; 68], dest: &mut [u8]) -> Mapped
     requires { ⌜ Payable (now payload) (now places) ⌝ }
-    ensures { λ r. ⌜ IsMapped swiss (now (payload .entry)) (now (dest .entry)) r (now (dest .exit)) ⌝ }
+    ensures { λ r. ⌜ IsMappedBill (now (payload .entry)) (now (dest .entry)) r (now (dest .exit)) ⌝ }
 {
     let paid = places::line(payload, places, 19);
     if paid.len() == 0 {
         return Mapped::Refused(Fault::NoAmount(19));
     }
-    let mut buffer = [0; 333];
+    let mut buffer = [0; 370];
     let counts = lay_fields(&mut buffer, payload, places);
     let n = counts.bytes;
     if dest.len() < n {
@@ -479,13 +521,13 @@ fn map_bill(payload: &[u8], places: &[u16; 68], dest: &mut [u8]) -> Mapped
     Mapped::Laid(counts)
 }
 
-// The contents of SWIFT's fields 59a, 32B and 70 for a payload, all lines parted by CR LF, in the front of the destination,
+// The contents of SWIFT's fields 59a, 32B and 70 for a payload under an edition, all lines parted by CR LF, in the front of the destination,
 // and what is told of them. A refusal changes no byte.
-pub fn fields(payload: &[u8], dest: &mut [u8]) -> Mapped
-    ensures { λ r. ⌜ IsMapped swiss (now (payload .entry)) (now (dest .entry)) r (now (dest .exit)) ⌝ }
+pub fn fields(payload: &[u8], edition: Edition, dest: &mut [u8]) -> Mapped
+    ensures { λ r. ⌜ IsMapped (swissIn edition) (now (payload .entry)) (now (dest .entry)) r (now (dest .exit)) ⌝ }
 {
     let mut places = [0; 68];
-    match judge(payload, &mut places) {
+    match judge_in(payload, &mut places, edition) {
         Answer::Refused(f) => Mapped::Refused(f),
         Answer::Accepted(_, _) => map_bill(payload, &places, dest),
     }

@@ -1,23 +1,29 @@
--- What an address finds, all its rules, is what those find that ask something: of one that is there, and of one that is absent. Assumes nothing.
+-- What an address finds, all its rules, is what those find that ask something: of one that is there, of type K or not, and of one that is absent. Assumes nothing.
 use Prim.Native.Nat.{ℕ, _+_}
 use native.Mathlib.Nat.{add-assoc}
 use native.Mathlib.Omega.{arith}
-use mathlib.Core.Bool.{Bool, true, false}
-use mathlib.Core.List.{List, [], _∷_, _++_}
+use mathlib.Core.Bool.{Bool, true, false, _&&_, and-false, false≢true}
+use mathlib.Core.List.{List, [], _∷_, _++_, map}
 use mathlib.Core.Path.{_≡_, refl, sym, ap, _∙_}
 use lib.Dec.{ltb}
 use lib.ListN.{length}
 use borrow.Author.Tests.{eqb-true, le-ltb}
-use Rattle.sieve.specs.Bytes.{Bytes}
+use Rattle.sieve.specs.Bytes.{Bytes, ascii, same}
 use Rattle.sieve.specs.Characters.{characters}
-use Rattle.sieve.specs.Kinds.{empty, atMost, formed}
+use Rattle.sieve.specs.Kinds.{empty, filled, atMost, formed}
 use Rattle.sieve.specs.Rules.{Rule, When, line, noText, isEmpty, is, has, always}
-use Rattle.sieve.specs.Verdict.{first}
+use Rattle.sieve.specs.Verdict.{aboutLines, first}
+use Rattle.sieve.proofs.Bounds.{same-is}
+use Rattle.sieve.proofs.Findings.{found-none, each-none}
 use Rattle.swiss.specs.Forms.{country}
-use Rattle.swiss.specs.Limits.{nameMost, streetMost, houseNumberMost, postcodeMost, townMost, structured}
-use Rattle.swiss.specs.Swiss.{address}
+use Rattle.swiss.specs.declared.Edition.{Edition}
+use Rattle.swiss.specs.declared.Edition.the-variants.{V22, V24}
+use Rattle.swiss.specs.Limits.{nameMost, streetMost, houseNumberMost, postcodeMost, townMost, structured, combined, permitsCombined}
+use Rattle.swiss.specs.Swiss.{isCombined, address}
+use Rattle.swiss.proofs.Editions.{not-combined}
 use Rattle.findings.specs.Findings.{finds}
-use Rattle.swiss_address.specs.Addresses.{addressee, locality, emptyFrom, vacant}
+use Rattle.findings.proofs.Looking.{numbered, found-nothing}
+use Rattle.swiss_address.specs.Addresses.{absentIf, addressee, locality, addressLines, countryAlone, emptyFrom, vacant}
 
 -- a line with no text is not too long
 short : (l : Bytes) (most : ℕ) → noText l ≡ true → ltb most (characters l) ≡ false
@@ -49,6 +55,16 @@ module _ (ls : List Bytes) where
   closed : (n most : ℕ) (rs ss : List Rule) → finds rs ls ≡ finds ss ls → finds (empty n always ∷ atMost most n ∷ rs) ls ≡ finds (empty n always ∷ ss) ls
   closed n most rs ss h = once-empty n (atMost most n ∷ rs) ss (λ z. left-out (atMost most n) rs (short (line n ls) most z) ∙ h)
 
+  -- what is found behind rules hangs on what the others find
+  same-behind : (rs ss ts : List Rule) → finds ss ls ≡ finds ts ls → finds (rs ++ ss) ls ≡ finds (rs ++ ts) ls
+  unfolding finds first
+  same-behind [] ss ts h = h
+  same-behind (r ∷ rs) ss ts h = go (r .broken ls) refl (same-behind rs ss ts h)
+    where
+      go : (b : Bool) → r .broken ls ≡ b → finds (rs ++ ss) ls ≡ finds (rs ++ ts) ls → finds (r ∷ rs ++ ss) ls ≡ finds (r ∷ rs ++ ts) ls
+      go true e ih = rw (e, finds, first)
+      go false e ih = rw (e, finds, first) ih
+
   module _ (n : ℕ) where
     -- what is asked of an address that is absent, once its first line is empty
     abbrev asked : List Rule
@@ -61,7 +77,7 @@ module _ (ls : List Bytes) where
         ∷ empty (n + 6) always ∷ formed (n + 6) (has (n + 6) country)
         ∷ []
 
-    as-asked : isEmpty n ls ≡ true → finds asked ls ≡ finds (address n always) ls
+    as-asked : isEmpty n ls ≡ true → finds asked ls ≡ finds (address V24 n always) ls
     unfolding finds first
     as-asked z = sym (left-out (formed n (is n structured)) asked (rw z))
 
@@ -70,15 +86,62 @@ module _ (ls : List Bytes) where
         ap (λ (rs : List Rule). finds rs ls) (seven n) ∙ left-out (empty n always) _ (rw z)
         ∙ sym (closed (n + 1) nameMost _ _ (closed (n + 2) streetMost _ _ (closed (n + 3) houseNumberMost _ _ (closed (n + 4) postcodeMost _ _ (closed (n + 5) townMost _ _ (once-empty (n + 6) _ [] (λ y. left-out (formed (n + 6) (has (n + 6) country)) [] (rw y))))))))
 
+    -- what is asked of the last three lines of type K
+    abbrev told : List Rule
+    told =
+        empty (n + 4) always ∷ atMost postcodeMost (n + 4)
+        ∷ empty (n + 5) always ∷ atMost townMost (n + 5)
+        ∷ filled (n + 6) always ∷ formed (n + 6) (has (n + 6) country)
+        ∷ []
+
+    as-told : finds (countryAlone n) ls ≡ finds told ls
+    as-told = sym (closed (n + 4) postcodeMost _ _ (closed (n + 5) townMost _ _ refl))
+
     module _ (absent : When) where
       -- whether it is absent decides it
-      by-absence : (b : Bool) → absent ls ≡ b → finds (address n (λ (ls : List Bytes). b)) ls ≡ finds (address n absent) ls
+      by-absence : (b : Bool) → absent ls ≡ b → finds (address V24 n (λ (ls : List Bytes). b)) ls ≡ finds (address V24 n absent) ls
       unfolding finds
-      by-absence b e = rw e
+      by-absence b a = rw a
 
-      pub there : absent ls ≡ false → finds (addressee n ++ locality n) ls ≡ finds (address n absent) ls
+      pub there : absent ls ≡ false → finds (addressee n ++ locality n) ls ≡ finds (address V24 n absent) ls
       unfolding finds first
-      there e = by-absence false e
+      there a = by-absence false a
 
-      pub gone : absent ls ≡ true → isEmpty n ls ≡ true → finds (vacant n) ls ≡ finds (address n absent) ls
-      gone e z = as-vacant z ∙ as-asked z ∙ by-absence true e
+      pub gone : absent ls ≡ true → isEmpty n ls ≡ true → finds (vacant n) ls ≡ finds (address V24 n absent) ls
+      gone a z = as-vacant z ∙ as-asked z ∙ by-absence true a
+
+      module _ (e : Edition) where
+        -- where it is not of type K, the editions ask the same
+        pub alike : isCombined e n ls ≡ false → finds (address V24 n absent) ls ≡ finds (address e n absent) ls
+        unfolding finds first
+        alike = go e
+          where
+            go : (e : Edition) → isCombined e n ls ≡ false → finds (address V24 n absent) ls ≡ finds (address e n absent) ls
+            go V22 k = rw k
+            go V24 k = refl
+
+        -- what 2.4 takes is not of type K
+        pub not-of-K : finds (address V24 n absent) ls .number ≡ 0 → isCombined e n ls ≡ false
+        unfolding numbered
+        not-of-K h = go e (not-combined (line n ls) (found-none _ _ (each-none (map (aboutLines ls) (address V24 n absent)) (found-nothing ls (address V24 n absent) refl h) 1)))
+          where
+            go : (e : Edition) → is n combined ls ≡ false → isCombined e n ls ≡ false
+            go V22 k = k
+            go V24 k = refl
+
+        -- the type K is no empty line
+        filled-by-K : isCombined e n ls ≡ true → isEmpty n ls ≡ false
+        filled-by-K = go e
+          where
+            go : (e : Edition) → isCombined e n ls ≡ true → isEmpty n ls ≡ false
+            go V22 k = ap noText (same-is (line n ls) (ascii combined) k)
+            go V24 k = absurd (false≢true k)
+
+        combined-asked : absent ls ≡ false → isCombined e n ls ≡ true → finds (addressLines n ++ told) ls ≡ finds (address e n absent) ls
+        unfolding finds first
+        combined-asked a k = let full = filled-by-K k in rw (a, k, full)
+
+    pub combined-there : (optional : Bool) (e : Edition) → isCombined e n ls ≡ true → finds (addressLines n ++ countryAlone n) ls ≡ finds (address e n (absentIf optional n)) ls
+    combined-there optional e k =
+        let here : absentIf optional n ls ≡ false = ap (λ (b : Bool). optional && b) (filled-by-K (absentIf optional n) e k) ∙ and-false optional in
+        same-behind (addressLines n) (countryAlone n) told as-told ∙ combined-asked (absentIf optional n) e here k

@@ -1,4 +1,4 @@
--- What is found in a text; seven lines from line n on, an address that may be absent, one that is there and one that is not. Assumes nothing.
+-- What is found in a text; seven lines from line n on, an address that may be absent, one that is there, of type S or K, and one that is not. Assumes nothing.
 use Prim.Native.Nat.{ℕ, zero, suc, _+_, _≤_}
 use mathlib.Core.Bool.{Bool, _&&_}
 use mathlib.Core.List.{List, [], _∷_}
@@ -10,7 +10,7 @@ use Rattle.sieve.specs.Characters.{characters}
 use Rattle.sieve.specs.Kinds.{empty, filled, atMost, formed}
 use Rattle.sieve.specs.Rules.{Rule, When, noText, isEmpty, is, has, always}
 use Rattle.swiss.specs.Forms.{country}
-use Rattle.swiss.specs.Limits.{nameMost, streetMost, houseNumberMost, postcodeMost, townMost, structured}
+use Rattle.swiss.specs.Limits.{nameMost, streetMost, houseNumberMost, addressLineMost, postcodeMost, townMost, structured}
 use Rattle.findings.specs.declared.Finding.{Finding}
 use Rattle.findings.specs.Findings.{small, after}
 use Rattle.places.specs.Listed.{listed}
@@ -42,6 +42,17 @@ locality n =
     ∷ filled (n + 5) always ∷ atMost townMost (n + 5)
     ∷ filled (n + 6) always ∷ formed (n + 6) (has (n + 6) country)
     ∷ []
+
+-- behind the type K: name and two address lines; the country alone
+abbrev pub addressLines : ℕ → List Rule
+addressLines n =
+    filled (n + 1) always ∷ atMost nameMost (n + 1)
+    ∷ atMost addressLineMost (n + 2)
+    ∷ filled (n + 3) always ∷ atMost addressLineMost (n + 3)
+    ∷ []
+
+abbrev pub countryAlone : ℕ → List Rule
+countryAlone n = empty (n + 4) always ∷ empty (n + 5) always ∷ filled (n + 6) always ∷ formed (n + 6) (has (n + 6) country) ∷ []
 
 -- so many lines from line n on that must be empty; seven of them
 unfoldable pub emptyFrom : ℕ → ℕ → List Rule

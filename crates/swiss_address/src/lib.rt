@@ -1,5 +1,5 @@
-// The rules about the seven lines of an address, in the order of the sieve: of one that is there, and of one that is
-// absent, whose lines are empty. Each line is taken out of the payload by the walk's list.
+// The rules about the seven lines of an address, in the order of the sieve: of one that is there, of type S or K, and of
+// one that is absent, whose lines are empty. Each line is taken out of the payload by the walk's list.
 use findings::Finding;
 use findings::KEPT;
 use findings::at_most;
@@ -8,12 +8,14 @@ use findings::filled;
 use findings::formed;
 use places::line;
 use runs::same;
-use swiss::limits;
+use swiss::Edition;
+ghost use mathlib.Core.List.{_++_};
 ghost use mathlib.Core.Path.{_≡_};
 ghost use Rattle.sieve.specs.Lines.{cut, linesOf};
+ghost use Rattle.swiss.specs.declared.Edition.the-variants.{V24};
 ghost use Rattle.swiss.specs.Swiss.{address};
 ghost use Rattle.findings.specs.Findings.{finds};
-ghost use Rattle.swiss_address.specs.Addresses.{textFound, SevenFrom, absentIf, addressee, locality, vacant};
+ghost use Rattle.swiss_address.specs.Addresses.{textFound, SevenFrom, absentIf, addressee, locality, addressLines, countryAlone, vacant};
 
 // A line of at most so many characters, which is not empty when that is asked: a name, a town, a procedure.
 pub fn text(l: &[u8], n: usize, when: bool, most: usize) -> Finding
@@ -33,7 +35,7 @@ fn addressee(payload: &[u8], places: &[u16; 68], n: usize) -> Finding
     let fourth = n + 3;
     let kind = line(payload, places, n);
     let f = filled(KEPT, kind, n, true);
-    let f = formed(f, kind, n, same(kind, &limits::STRUCTURED));
+    let f = formed(f, kind, n, same(kind, &Edition::STRUCTURED));
     if f.number != 0 {
         return f;
     }
@@ -41,7 +43,7 @@ fn addressee(payload: &[u8], places: &[u16; 68], n: usize) -> Finding
         line(payload, places, second),
         second,
         true,
-        limits::NAME_MOST,
+        Edition::NAME_MOST,
     );
     if f.number != 0 {
         return f;
@@ -50,7 +52,7 @@ fn addressee(payload: &[u8], places: &[u16; 68], n: usize) -> Finding
         KEPT,
         line(payload, places, third),
         third,
-        limits::STREET_MOST,
+        Edition::STREET_MOST,
     );
     if f.number != 0 {
         return f;
@@ -59,7 +61,7 @@ fn addressee(payload: &[u8], places: &[u16; 68], n: usize) -> Finding
         KEPT,
         line(payload, places, fourth),
         fourth,
-        limits::HOUSE_NUMBER_MOST,
+        Edition::HOUSE_NUMBER_MOST,
     )
 }
 
@@ -75,18 +77,86 @@ fn locality(payload: &[u8], places: &[u16; 68], n: usize) -> Finding
         line(payload, places, fifth),
         fifth,
         true,
-        limits::POSTCODE_MOST,
+        Edition::POSTCODE_MOST,
     );
     if f.number != 0 {
         return f;
     }
-    let f = text(line(payload, places, sixth), sixth, true, limits::TOWN_MOST);
+    let f = text(
+        line(payload, places, sixth),
+        sixth,
+        true,
+        Edition::TOWN_MOST,
+    );
     if f.number != 0 {
         return f;
     }
     let country = line(payload, places, seventh);
     let f = filled(KEPT, country, seventh, true);
     formed(f, country, seventh, swiss_forms::country(country))
+}
+
+// An address of type K behind its type, from line n on: name and two address lines.
+fn address_lines(payload: &[u8], places: &[u16; 68], n: usize) -> Finding
+    requires { ⌜ SevenFrom (now payload) (now places) n ⌝ }
+    ensures { λ r. ⌜ r ≡ finds (addressLines n) (linesOf (cut (now (payload .entry)))) ⌝ }
+{
+    let second = n + 1;
+    let third = n + 2;
+    let fourth = n + 3;
+    let f = text(
+        line(payload, places, second),
+        second,
+        true,
+        Edition::NAME_MOST,
+    );
+    if f.number != 0 {
+        return f;
+    }
+    let f = at_most(
+        KEPT,
+        line(payload, places, third),
+        third,
+        Edition::ADDRESS_LINE_MOST,
+    );
+    if f.number != 0 {
+        return f;
+    }
+    let last = line(payload, places, fourth);
+    text(last, fourth, true, Edition::ADDRESS_LINE_MOST)
+}
+
+// The other three lines of type K: no postcode, no town, country.
+fn country_alone(payload: &[u8], places: &[u16; 68], n: usize) -> Finding
+    requires { ⌜ SevenFrom (now payload) (now places) n ⌝ }
+    ensures { λ r. ⌜ r ≡ finds (countryAlone n) (linesOf (cut (now (payload .entry)))) ⌝ }
+{
+    let fifth = n + 4;
+    let sixth = n + 5;
+    let seventh = n + 6;
+    let f = empty(KEPT, line(payload, places, fifth), fifth, true);
+    if f.number != 0 {
+        return f;
+    }
+    let f = empty(KEPT, line(payload, places, sixth), sixth, true);
+    if f.number != 0 {
+        return f;
+    }
+    let country = line(payload, places, seventh);
+    let f = filled(KEPT, country, seventh, true);
+    formed(f, country, seventh, swiss_forms::country(country))
+}
+
+// An address of type K, from line n on.
+fn combined(payload: &[u8], places: &[u16; 68], n: usize) -> Finding
+    requires { ⌜ SevenFrom (now payload) (now places) n ⌝ }
+    ensures { λ r. ⌜ r ≡ finds (addressLines n ++ countryAlone n) (linesOf (cut (now (payload .entry)))) ⌝ }
+{
+    let f = address_lines(payload, places, n);
+    if f.number != 0 {
+        return f;
+    }
+    country_alone(payload, places, n)
 }
 
 // Seven lines from line n on that must be empty.
@@ -105,10 +175,10 @@ pub fn vacant(payload: &[u8], places: &[u16; 68], n: usize) -> Finding
     KEPT
 }
 
-// The seven lines of an address, from line n on.
-pub fn address(payload: &[u8], places: &[u16; 68], n: usize, optional: bool) -> Finding
+// The seven lines of an address as edition 2.4 has them, of type S, from line n on.
+fn structured(payload: &[u8], places: &[u16; 68], n: usize, optional: bool) -> Finding
     requires { ⌜ SevenFrom (now payload) (now places) n ⌝ }
-    ensures { λ r. ⌜ r ≡ finds (address n (absentIf optional n)) (linesOf (cut (now (payload .entry)))) ⌝ }
+    ensures { λ r. ⌜ r ≡ finds (address V24 n (absentIf optional n)) (linesOf (cut (now (payload .entry)))) ⌝ }
 {
     let kind = line(payload, places, n);
     if optional & (kind.len() == 0) {
@@ -119,4 +189,26 @@ pub fn address(payload: &[u8], places: &[u16; 68], n: usize, optional: bool) -> 
         return f;
     }
     locality(payload, places, n)
+}
+
+// The seven lines of an address, from line n on. Most are of type S: K is asked for only where S's rules are broken.
+pub fn address(
+    payload: &[u8],
+    places: &[u16; 68],
+    n: usize,
+    optional: bool,
+    edition: Edition,
+) -> Finding
+    requires { ⌜ SevenFrom (now payload) (now places) n ⌝ }
+    ensures { λ r. ⌜ r ≡ finds (address edition n (absentIf optional n)) (linesOf (cut (now (payload .entry)))) ⌝ }
+{
+    let f = structured(payload, places, n, optional);
+    if f.number == 0 {
+        return f;
+    }
+    let letter = line(payload, places, n);
+    if edition.permits_combined() & same(letter, &Edition::COMBINED) {
+        return combined(payload, places, n);
+    }
+    f
 }

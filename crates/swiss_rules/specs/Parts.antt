@@ -1,4 +1,4 @@
--- The list of rules, in three parts; what is found in a line with a number; a reference by its type. Assumes nothing.
+-- The list of rules of an edition, in three parts; what is found in a line with a number; a reference by its type. Assumes nothing.
 use Prim.Native.Nat.{ℕ}
 use mathlib.Core.Bool.{Bool, _&&_, not}
 use mathlib.Core.List.{List, [], _∷_, flatten}
@@ -6,6 +6,7 @@ use mathlib.Core.Option.{none}
 use Rattle.sieve.specs.Bytes.{Bytes}
 use Rattle.sieve.specs.Kinds.{filled, formed, checked}
 use Rattle.sieve.specs.Rules.{Rule, noText, isEmpty, has, always, never}
+use Rattle.swiss.specs.declared.Edition.{Edition}
 use Rattle.swiss.specs.Swiss.{header, account, address, reserved, payment, reference, information, procedures, pairing, together}
 use Rattle.findings.specs.declared.Finding.{Finding}
 use Rattle.findings.specs.Findings.{small, after}
@@ -19,13 +20,13 @@ abbrev pub referenceOf : (Bytes → Bool) → (Bytes → Bool) → List Rule
 referenceOf form check = filled 29 always ∷ formed 29 (has 29 form) ∷ checked 29 (has 29 check) ∷ []
 
 -- lines 1 to 11
-unfoldable pub front : List Rule
-front = flatten (header ∷ account ∷ address 5 never ∷ [])
+unfoldable pub front : Edition → List Rule
+front e = flatten (header ∷ account ∷ address e 5 never ∷ [])
 
 -- lines 12 to 27
-unfoldable pub middle : List Rule
-middle = flatten (reserved ∷ payment ∷ address 21 (isEmpty 21) ∷ [])
+unfoldable pub middle : Edition → List Rule
+middle e = flatten (reserved ∷ payment ∷ address e 21 (isEmpty 21) ∷ [])
 
 -- lines 28 to 34, and those that go together
-unfoldable pub back : List Rule
-back = flatten (reference ∷ information ∷ procedures ∷ (pairing ∷ together ∷ []) ∷ [])
+unfoldable pub back : Edition → List Rule
+back e = flatten (reference ∷ information ∷ procedures ∷ (pairing e ∷ together ∷ []) ∷ [])

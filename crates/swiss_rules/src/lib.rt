@@ -14,7 +14,7 @@ use mod10::checks10;
 use places::line;
 use runs::longer_together;
 use runs::same;
-use swiss::limits;
+use swiss::Edition;
 use swiss_address::address;
 use swiss_address::text;
 use swiss_address::vacant;
@@ -33,15 +33,15 @@ ghost use Rattle.swiss_rules.specs.Parts.{numberFound, referenceOf, fron
 pub fn header(kind: &[u8], version: &[u8], coding: &[u8]) -> Finding
     ensures { λ r. ⌜ r ≡ finds header (now (kind .entry) ∷ now (version .entry) ∷ now (coding .entry) ∷ []) ⌝ }
 {
-    let f = fixed(KEPT, kind, 1, &limits::QR_TYPE);
+    let f = fixed(KEPT, kind, 1, &Edition::QR_TYPE);
     if f.number != 0 {
         return f;
     }
-    let f = fixed(KEPT, version, 2, &limits::VERSION);
+    let f = fixed(KEPT, version, 2, &Edition::VERSION);
     if f.number != 0 {
         return f;
     }
-    fixed(KEPT, coding, 3, &limits::CODING)
+    fixed(KEPT, coding, 3, &Edition::CODING)
 }
 
 // The number on line n, an account's or a reference's: not empty, of its form and with right check digits.
@@ -67,7 +67,7 @@ pub fn account(l: &[u8]) -> Finding
 fn payment(amount: &[u8], currency: &[u8]) -> Finding
     ensures { λ r. ⌜ r ≡ finds payment (from 19 (now (amount .entry) ∷ now (currency .entry) ∷ [])) ⌝ }
 {
-    let f = at_most(KEPT, amount, 19, limits::AMOUNT_MOST);
+    let f = at_most(KEPT, amount, 19, Edition::AMOUNT_MOST);
     if f.number != 0 {
         return f;
     }
@@ -76,7 +76,7 @@ fn payment(amount: &[u8], currency: &[u8]) -> Finding
         return f;
     }
     let f = filled(KEPT, currency, 20, true);
-    let known = same(currency, &limits::FRANCS) | same(currency, &limits::EUROS);
+    let known = same(currency, &Edition::FRANCS) | same(currency, &Edition::EUROS);
     formed(f, currency, 20, known)
 }
 
@@ -101,13 +101,13 @@ fn creditor_reference(l: &[u8]) -> Finding
 fn reference(kind: &[u8], l: &[u8]) -> Finding
     ensures { λ r. ⌜ r ≡ finds reference (from 28 (now (kind .entry) ∷ now (l .entry) ∷ [])) ⌝ }
 {
-    if same(kind, &limits::CREDITOR_REFERENCE) {
+    if same(kind, &Edition::CREDITOR_REFERENCE) {
         return creditor_reference(l);
     }
-    if same(kind, &limits::QR_REFERENCE) {
+    if same(kind, &Edition::QR_REFERENCE) {
         return qr_reference(l);
     }
-    if same(kind, &limits::NO_REFERENCE) {
+    if same(kind, &Edition::NO_REFERENCE) {
         return empty(KEPT, l, 29, true);
     }
     let f = filled(KEPT, kind, 28, true);
@@ -119,42 +119,43 @@ fn information(message: &[u8], trailer: &[u8], billing: &[u8]) -> Finding
     ensures { λ r.
         ⌜ r ≡ finds information (from 30 (now (message .entry) ∷ now (trailer .entry) ∷ now (billing .entry) ∷ [])) ⌝ }
 {
-    let f = at_most(KEPT, message, 30, limits::MESSAGE_MOST);
+    let f = at_most(KEPT, message, 30, Edition::MESSAGE_MOST);
     if f.number != 0 {
         return f;
     }
-    let f = fixed(KEPT, trailer, 31, &limits::TRAILER);
+    let f = fixed(KEPT, trailer, 31, &Edition::TRAILER);
     if f.number != 0 {
         return f;
     }
-    let f = at_most(KEPT, billing, 32, limits::BILLING_MOST);
+    let f = at_most(KEPT, billing, 32, Edition::BILLING_MOST);
     if f.number != 0 {
         return f;
     }
     formed(KEPT, billing, 32, swiss_forms::billing(billing))
 }
 
-// QRR stands exactly with a QR-IBAN, and only with CHF.
-fn paired(account: &[u8], currency: &[u8], kind: &[u8]) -> bool
-    ensures { λ r. ⌜ r ≡ paired (now (account .entry)) (now (currency .entry)) (now (kind .entry)) ⌝ }
+// QRR stands exactly with a QR-IBAN, and only with CHF where the edition does not permit EUR.
+fn paired(account: &[u8], currency: &[u8], kind: &[u8], edition: Edition) -> bool
+    ensures { λ r. ⌜ r ≡ paired edition (now (account .entry)) (now (currency .entry)) (now (kind .entry)) ⌝ }
 {
     let qr = swiss_forms::qr_iban(account);
-    if same(kind, &limits::QR_REFERENCE) {
-        qr & same(currency, &limits::FRANCS)
+    if same(kind, &Edition::QR_REFERENCE) {
+        qr & (edition.permits_qrr_in_euros() | same(currency, &Edition::FRANCS))
     } else {
         !qr
     }
 }
 
 // Lines that go together.
-fn together(payload: &[u8], places: &[u16; 68]) -> Finding
+fn together(payload: &[u8], places: &[u16; 68], edition: Edition) -> Finding
     requires { ⌜ now places ≡ listed (now payload) ⌝ }
-    ensures { λ r. ⌜ r ≡ finds (pairing ∷ together ∷ []) (linesOf (cut (now (payload .entry)))) ⌝ }
+    ensures { λ r. ⌜ r ≡ finds (pairing edition ∷ together ∷ []) (linesOf (cut (now (payload .entry)))) ⌝ }
 {
     let pair = paired(
         line(payload, places, 4),
         line(payload, places, 20),
         line(payload, places, 28),
+        edition,
     );
     let f = rule(KEPT, !pair, 12, 28);
     if f.number != 0 {
@@ -162,14 +163,14 @@ fn together(payload: &[u8], places: &[u16; 68]) -> Finding
     }
     let message = line(payload, places, 30);
     let billing = line(payload, places, 32);
-    let long = longer_together(message, billing, limits::TOGETHER_MOST);
+    let long = longer_together(message, billing, Edition::TOGETHER_MOST);
     rule(KEPT, long, 13, 32)
 }
 
 // Lines 1 to 11.
-fn front(payload: &[u8], places: &[u16; 68]) -> Finding
+fn front(payload: &[u8], places: &[u16; 68], edition: Edition) -> Finding
     requires { ⌜ now places ≡ listed (now payload) ⌝ }
-    ensures { λ r. ⌜ r ≡ finds front (linesOf (cut (now (payload .entry)))) ⌝ }
+    ensures { λ r. ⌜ r ≡ finds (front edition) (linesOf (cut (now (payload .entry)))) ⌝ }
 {
     let f = header(
         line(payload, places, 1),
@@ -183,13 +184,13 @@ fn front(payload: &[u8], places: &[u16; 68]) -> Finding
     if f.number != 0 {
         return f;
     }
-    address(payload, places, 5, false)
+    address(payload, places, 5, false, edition)
 }
 
 // Lines 12 to 27.
-fn middle(payload: &[u8], places: &[u16; 68]) -> Finding
+fn middle(payload: &[u8], places: &[u16; 68], edition: Edition) -> Finding
     requires { ⌜ now places ≡ listed (now payload) ⌝ }
-    ensures { λ r. ⌜ r ≡ finds middle (linesOf (cut (now (payload .entry)))) ⌝ }
+    ensures { λ r. ⌜ r ≡ finds (middle edition) (linesOf (cut (now (payload .entry)))) ⌝ }
 {
     let f = vacant(payload, places, 12);
     if f.number != 0 {
@@ -199,13 +200,13 @@ fn middle(payload: &[u8], places: &[u16; 68]) -> Finding
     if f.number != 0 {
         return f;
     }
-    address(payload, places, 21, true)
+    address(payload, places, 21, true, edition)
 }
 
 // Lines 28 to 34, of a bill of so many lines, and those that go together.
-fn back(payload: &[u8], places: &[u16; 68], count: usize) -> Finding
+fn back(payload: &[u8], places: &[u16; 68], count: usize, edition: Edition) -> Finding
     requires { ⌜ Counted (now payload) (now places) count ⌝ }
-    ensures { λ r. ⌜ r ≡ finds back (linesOf (cut (now (payload .entry)))) ⌝ }
+    ensures { λ r. ⌜ r ≡ finds (back edition) (linesOf (cut (now (payload .entry)))) ⌝ }
 {
     let f = reference(line(payload, places, 28), line(payload, places, 29));
     if f.number != 0 {
@@ -223,7 +224,7 @@ fn back(payload: &[u8], places: &[u16; 68], count: usize) -> Finding
         line(payload, places, 33),
         33,
         count == 33,
-        limits::PROCEDURE_MOST,
+        Edition::PROCEDURE_MOST,
     );
     if f.number != 0 {
         return f;
@@ -232,26 +233,26 @@ fn back(payload: &[u8], places: &[u16; 68], count: usize) -> Finding
         line(payload, places, 34),
         34,
         count == 34,
-        limits::PROCEDURE_MOST,
+        Edition::PROCEDURE_MOST,
     );
     if f.number != 0 {
         return f;
     }
-    together(payload, places)
+    together(payload, places, edition)
 }
 
-// All rules about lines, in the order of the sieve.
-pub fn rules(payload: &[u8], places: &[u16; 68], count: usize) -> Finding
+// All rules about lines of an edition, in the order of the sieve.
+pub fn rules(payload: &[u8], places: &[u16; 68], count: usize, edition: Edition) -> Finding
     requires { ⌜ Counted (now payload) (now places) count ⌝ }
-    ensures { λ r. ⌜ r ≡ finds rules (linesOf (cut (now (payload .entry)))) ⌝ }
+    ensures { λ r. ⌜ r ≡ finds (rules edition) (linesOf (cut (now (payload .entry)))) ⌝ }
 {
-    let f = front(payload, places);
+    let f = front(payload, places, edition);
     if f.number != 0 {
         return f;
     }
-    let f = middle(payload, places);
+    let f = middle(payload, places, edition);
     if f.number != 0 {
         return f;
     }
-    back(payload, places, count)
+    back(payload, places, count, edition)
 }

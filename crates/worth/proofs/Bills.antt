@@ -18,6 +18,7 @@ use Rattle.sieve.specs.Latin.{inOne}
 use Rattle.sieve.specs.Verdict.{Refusal, under, accepted, refused, verdict}
 use Rattle.sieve.proofs.Findings.{Unbroken}
 use Rattle.swiss.specs.Forms.{iban, qrr}
+use Rattle.swiss.specs.declared.Edition.the-variants.{V24}
 use Rattle.swiss.specs.Swiss.{rules, swiss}
 use Rattle.worth.specs.Slips.{changed, swapped, unseenInQrr}
 use Rattle.worth.specs.Worth.{passesQrr, passesIban}
@@ -36,7 +37,7 @@ settled n k true r = refl
 settled n k false r = refl
 
 module _ (p : Bytes) (n : ℕ) (k : Break) (h : Accepted p n k) where
-  unbroken : Unbroken rules (billOf p .lines)
+  unbroken : Unbroken (rules V24) (billOf p .lines)
   unfolding swiss
   unbroken = accepted-bill p n k h .keeps .unbroken
 

@@ -19,6 +19,7 @@ use Rattle.sieve.proofs.Firsts.{first-append, passed, stopped}
 use Rattle.sieve.proofs.Findings.{Unbroken, none-broken}
 use Rattle.swiss.specs.Limits.{qrReference, creditorReference, noReference}
 use Rattle.swiss.specs.Forms.{iban, qrr, scor}
+use Rattle.swiss.specs.declared.Edition.the-variants.{V24}
 use Rattle.swiss.specs.Swiss.{rules, under28, paired, pairing, together}
 use Rattle.worth.specs.Worth.{passesQrr, passesIban}
 
@@ -73,16 +74,16 @@ shown-is (suc n) (l ∷ ls) h = ap (λ (t : List Bytes). l ∷ t) (shown-is n ls
 -- the rules of line 4 and line 29, and those around them
 
 abbrev rules1to3 : List Rule
-rules1to3 = take 3 rules
+rules1to3 = take 3 (rules V24)
 
 abbrev rules5to34 : List Rule
-rules5to34 = take 61 (drop 6 rules)
+rules5to34 = take 63 (drop 6 (rules V24))
 
 abbrev rules1to28 : List Rule
-rules1to28 = take 55 rules
+rules1to28 = take 57 (rules V24)
 
 abbrev rulesFrom30 : List Rule
-rulesFrom30 = drop 59 rules
+rulesFrom30 = drop 61 (rules V24)
 
 abbrev filled4 : Rule
 filled4 = filled 4 always
@@ -94,30 +95,30 @@ abbrev filled29 : Rule
 filled29 = filled 29 (λ ls. is 28 qrReference ls || is 28 creditorReference ls)
 
 abbrev from4 : List Rule
-from4 = filled4 ∷ formed 4 (has 4 iban) ∷ checked 4 (has 4 checks97) ∷ (rules5to34 ++ (pairing ∷ together ∷ []))
+from4 = filled4 ∷ formed 4 (has 4 iban) ∷ checked 4 (has 4 checks97) ∷ (rules5to34 ++ (pairing V24 ∷ together ∷ []))
 
 abbrev from29 : List Rule
 from29 = empty29 ∷ filled29 ∷ formed 29 (under28 qrr scor) ∷ checked 29 (under28 checks10 checks97) ∷ rulesFrom30
 
-around-4 : rules ≡ rules1to3 ++ from4
+around-4 : rules V24 ≡ rules1to3 ++ from4
 unfolding rules flatten
 around-4 = refl
 
-around-29 : rules ≡ rules1to28 ++ from29
+around-29 : rules V24 ≡ rules1to28 ++ from29
 unfolding rules flatten
 around-29 = refl
 
-in-from4 : {r : Rule} → List·Memᴰ r from4 → List·Memᴰ r rules
+in-from4 : {r : Rule} → List·Memᴰ r from4 → List·Memᴰ r (rules V24)
 in-from4 m = rw around-4 (Memᴰ·append-right rules1to3 m)
 
-in-from29 : {r : Rule} → List·Memᴰ r from29 → List·Memᴰ r rules
+in-from29 : {r : Rule} → List·Memᴰ r from29 → List·Memᴰ r (rules V24)
 in-from29 m = rw around-29 (Memᴰ·append-right rules1to28 m)
 
 -- behind the rules of that line
-past-4 : {r : Rule} → List·Memᴰ r (rules5to34 ++ (pairing ∷ together ∷ [])) → List·Memᴰ r rules
+past-4 : {r : Rule} → List·Memᴰ r (rules5to34 ++ (pairing V24 ∷ together ∷ [])) → List·Memᴰ r (rules V24)
 past-4 m = in-from4 (List·Memᴰ·tail (List·Memᴰ·tail (List·Memᴰ·tail m)))
 
-past-29 : {r : Rule} → List·Memᴰ r rulesFrom30 → List·Memᴰ r rules
+past-29 : {r : Rule} → List·Memᴰ r rulesFrom30 → List·Memᴰ r (rules V24)
 past-29 m = in-from29 (List·Memᴰ·tail (List·Memᴰ·tail (List·Memᴰ·tail (List·Memᴰ·tail m))))
 
 -- the others do not look at that line, save the pairing at line 4
@@ -142,7 +143,7 @@ module _ (ls : List Bytes) (t : Bytes) where
   behind-29 = refl
 
 -- which the pairing asks for its IID alone
-paired-alike : (a b c d k j : Bytes) → take 5 (drop 4 a) ≡ take 5 (drop 4 b) → c ≡ d → k ≡ j → paired a c k ≡ paired b d j
+paired-alike : (a b c d k j : Bytes) → take 5 (drop 4 a) ≡ take 5 (drop 4 b) → c ≡ d → k ≡ j → paired V24 a c k ≡ paired V24 b d j
 paired-alike a b c d k j e f g = rw (e, f, g)
 
 -- a line that must not be empty and breaks neither rule 10 nor rule 11
@@ -153,7 +154,7 @@ both-kept false true false a b d = absurd (false≢true (sym d))
 both-kept false false c a b d = absurd (false≢true (sym b))
 
 -- lines that break no rule have an IBAN that passes, and so it is with a QR reference
-module _ (ls : List Bytes) (u : Unbroken rules ls) where
+module _ (ls : List Bytes) (u : Unbroken (rules V24) ls) where
   pub kept-4 : passesIban (line 4 ls) ≡ true
   kept-4 =
       both-kept (isEmpty 4 ls) (iban (line 4 ls)) (checks97 (line 4 ls))
@@ -168,8 +169,8 @@ module _ (ls : List Bytes) (u : Unbroken rules ls) where
       (rw q at (u (formed 29 (under28 qrr scor)) (in-from29 (List·Memᴰ·tail (List·Memᴰ·tail (List·Memᴰ·head refl))))))
       (rw q at (u (checked 29 (under28 checks10 checks97)) (in-from29 (List·Memᴰ·tail (List·Memᴰ·tail (List·Memᴰ·tail (List·Memᴰ·head refl)))))))
 
-module _ (ls : List Bytes) (enough : 31 ≤ length ls) (u : Unbroken rules ls) (t : Bytes) (some-text : 1 ≤ length t) where
-  front-none : (front rest : List Rule) → rules ≡ front ++ rest → finds front ls ≡ none
+module _ (ls : List Bytes) (enough : 31 ≤ length ls) (u : Unbroken (rules V24) ls) (t : Bytes) (some-text : 1 ≤ length t) where
+  front-none : (front rest : List Rule) → rules V24 ≡ front ++ rest → finds front ls ≡ none
   front-none front rest e = none-broken front ls (λ r m. u r (rw e (Memᴰ·append-left rest m)))
 
   not-empty : noText t ≡ false
@@ -184,7 +185,7 @@ module _ (ls : List Bytes) (enough : 31 ≤ length ls) (u : Unbroken rules ls) (
   line-4 : line 4 (set ls 3 t) ≡ t
   line-4 = getD-set-same ls 3 t [] (omega arith)
 
-  pub other-4 : (passesIban t ≡ true → take 5 (drop 4 t) ≡ take 5 (drop 4 (line 4 ls))) → finds rules (set ls 3 t) ≡ cond (passesIban t) none (some (under (cond (iban t) 11 10) 4))
+  pub other-4 : (passesIban t ≡ true → take 5 (drop 4 t) ≡ take 5 (drop 4 (line 4 ls))) → finds (rules V24) (set ls 3 t) ≡ cond (passesIban t) none (some (under (cond (iban t) 11 10) 4))
   other-4 iid =
       let before : finds rules1to3 (set ls 3 t) ≡ none = other-alike 4 3 rules1to3 (omega arith) (before-4 ls t) ∙ front-none rules1to3 from4 around-4 in
       let some-4 : filled4 .broken (set ls 3 t) ≡ false = ap noText line-4 ∙ not-empty in
@@ -193,26 +194,26 @@ module _ (ls : List Bytes) (enough : 31 ≤ length ls) (u : Unbroken rules ls) (
       let check : checked 4 (has 4 checks97) .broken (set ls 3 t) ≡ not (checks97 t) = ap (λ (l : Bytes). not (checks97 l)) line-4 in
       ap (λ (rs : List Rule). finds rs (set ls 3 t)) around-4
       ∙ past rules1to3 from4 (set ls 3 t) before
-      ∙ kept filled4 (formed 4 (has 4 iban) ∷ checked 4 (has 4 checks97) ∷ (rules5to34 ++ (pairing ∷ together ∷ []))) (set ls 3 t) some-4
-      ∙ form-then-check 4 (has 4 iban) (has 4 checks97) (rules5to34 ++ (pairing ∷ together ∷ [])) (set ls 3 t) (iban t) (checks97 t) form check (λ p. behind (iid p))
+      ∙ kept filled4 (formed 4 (has 4 iban) ∷ checked 4 (has 4 checks97) ∷ (rules5to34 ++ (pairing V24 ∷ together ∷ []))) (set ls 3 t) some-4
+      ∙ form-then-check 4 (has 4 iban) (has 4 checks97) (rules5to34 ++ (pairing V24 ∷ together ∷ [])) (set ls 3 t) (iban t) (checks97 t) form check (λ p. behind (iid p))
     where
-      behind : take 5 (drop 4 t) ≡ take 5 (drop 4 (line 4 ls)) → finds (rules5to34 ++ (pairing ∷ together ∷ [])) (set ls 3 t) ≡ none
+      behind : take 5 (drop 4 t) ≡ take 5 (drop 4 (line 4 ls)) → finds (rules5to34 ++ (pairing V24 ∷ together ∷ [])) (set ls 3 t) ≡ none
       behind e =
           let others : finds rules5to34 (set ls 3 t) ≡ none =
-          other-alike 4 3 rules5to34 (omega arith) (behind-4 ls t) ∙ none-broken rules5to34 ls (λ r m. u r (past-4 (Memᴰ·append-left (pairing ∷ together ∷ []) m))) in
-          let pairs : pairing .broken (set ls 3 t) ≡ false =
+          other-alike 4 3 rules5to34 (omega arith) (behind-4 ls t) ∙ none-broken rules5to34 ls (λ r m. u r (past-4 (Memᴰ·append-left (pairing V24 ∷ together ∷ []) m))) in
+          let pairs : pairing V24 .broken (set ls 3 t) ≡ false =
           ap not (paired-alike (line 4 (set ls 3 t)) (line 4 ls) _ _ _ _ (ap (λ (l : Bytes). take 5 (drop 4 l)) line-4 ∙ e) (getD-set-other ls 3 19 t [] (λ z. omega arith)) (getD-set-other ls 3 27 t [] (λ z. omega arith)))
-          ∙ u pairing (past-4 (Memᴰ·append-right rules5to34 (List·Memᴰ·head refl))) in
+          ∙ u (pairing V24) (past-4 (Memᴰ·append-right rules5to34 (List·Memᴰ·head refl))) in
           let ends : finds (together ∷ []) (set ls 3 t) ≡ none =
           other-alike 4 3 (together ∷ []) (omega arith) (last-4 ls t) ∙ none-broken (together ∷ []) ls (λ r m. u r (past-4 (Memᴰ·append-right rules5to34 (List·Memᴰ·tail m)))) in
-          past rules5to34 (pairing ∷ together ∷ []) (set ls 3 t) others ∙ kept pairing (together ∷ []) (set ls 3 t) pairs ∙ ends
+          past rules5to34 (pairing V24 ∷ together ∷ []) (set ls 3 t) others ∙ kept (pairing V24) (together ∷ []) (set ls 3 t) pairs ∙ ends
 
   -- another text as line 29, where line 28 says that it is a QR reference
 
   line-29 : line 29 (set ls 28 t) ≡ t
   line-29 = getD-set-same ls 28 t [] (omega arith)
 
-  pub other-29 : is 28 qrReference ls ≡ true → finds rules (set ls 28 t) ≡ cond (passesQrr t) none (some (under (cond (qrr t) 11 10) 29))
+  pub other-29 : is 28 qrReference ls ≡ true → finds (rules V24) (set ls 28 t) ≡ cond (passesQrr t) none (some (under (cond (qrr t) 11 10) 29))
   other-29 q =
       let line-28 : line 28 (set ls 28 t) ≡ ascii qrReference = getD-set-other ls 28 27 t [] (λ z. omega arith) ∙ same-is (line 28 ls) (ascii qrReference) q in
       let before : finds rules1to28 (set ls 28 t) ≡ none = other-alike 29 28 rules1to28 (omega arith) (before-29 ls t) ∙ front-none rules1to28 from29 around-29 in

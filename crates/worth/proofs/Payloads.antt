@@ -18,6 +18,7 @@ use Rattle.sieve.specs.Demand.{Is}
 use Rattle.sieve.proofs.Latin.{lawful}
 use Rattle.sieve.proofs.Accepts.{read-back, accepts-exactly}
 use Rattle.sieve.proofs.Stages.{more-kept, more-broken}
+use Rattle.swiss.specs.declared.Edition.the-variants.{V24}
 use Rattle.swiss.specs.Swiss.{rules, swiss}
 use Rattle.swiss.proofs.DemandThree.{swiss-demand-three}
 use Rattle.worth.specs.Bills.{Accepted}
@@ -87,7 +88,7 @@ module _ (p : Bytes) (n : ℕ) (k : Break) (h : Accepted p n k) (i : ℕ) (t : B
       go l texts (inl e) = rw e text
       go l texts (inr m) = texts l m
 
-  pub told : (o : Option Refusal) → first (map (aboutLines (set (billOf p .lines) i t)) rules) ≡ o
+  pub told : (o : Option Refusal) → first (map (aboutLines (set (billOf p .lines) i t)) (rules V24)) ≡ o
       → verdict swiss (joined (billOf p .break) (set (billOf p .lines) i t)) ≡ asFound n k o
   unfolding swiss written billOf
   told o e =
@@ -97,11 +98,11 @@ module _ (p : Bytes) (n : ℕ) (k : Break) (h : Accepted p n k) (i : ℕ) (t : B
       let accepts : verdict L q ≡ accepted n k =
       accepts-exactly L (λ ls. lawful) (lit≤ tt) .complete other other-keeps ∙ rw (length-set (billOf p .lines) i t, is .count, is .break) in
       let same : linesOf (cut q) ≡ set (billOf p .lines) i t = ap (λ (b : Bill). b .lines) (read-back L (λ ls. lawful) (lit≤ tt) other other-keeps) in
-      let finds : first (map (aboutLines (linesOf (cut q))) rules) ≡ o = rw same e in
+      let finds : first (map (aboutLines (linesOf (cut q))) (rules V24)) ≡ o = rw same e in
       go o finds accepts
     where
-      go : (o : Option Refusal) → first (map (aboutLines (linesOf (cut (joined (billOf p .break) (set (billOf p .lines) i t))))) rules) ≡ o
+      go : (o : Option Refusal) → first (map (aboutLines (linesOf (cut (joined (billOf p .break) (set (billOf p .lines) i t))))) (rules V24)) ≡ o
           → verdict (bare swiss) (joined (billOf p .break) (set (billOf p .lines) i t)) ≡ accepted n k
           → verdict swiss (joined (billOf p .break) (set (billOf p .lines) i t)) ≡ asFound n k o
-      go none f a = more-kept (bare swiss) rules (joined (billOf p .break) (set (billOf p .lines) i t)) n k a f
-      go (some r) f a = more-broken (bare swiss) rules (joined (billOf p .break) (set (billOf p .lines) i t)) n k a r f
+      go none f a = more-kept (bare swiss) (rules V24) (joined (billOf p .break) (set (billOf p .lines) i t)) n k a f
+      go (some r) f a = more-broken (bare swiss) (rules V24) (joined (billOf p .break) (set (billOf p .lines) i t)) n k a r f

@@ -2,6 +2,7 @@
 use native.Mathlib.Omega.{arith}
 use mathlib.Core.Path.{refl, ap, _∙_}
 use borrow.Author.Needs.{needs}
+use Rattle.swiss.specs.Swiss.{swiss}
 use Rattle.runs.specs.Laid.{overFitting}
 use Rattle.capi.proofs.Swift.{low-line, few-told, within, refused-told, laid-told}
 use Rattle.capi.proofs.qrbill_swift.Statement.{statement}
@@ -28,12 +29,14 @@ enum-known-fault : tie.Need-enum-known-fault
 enum-known-fault c = search needs
 
 packed-refusal-requires : tie.Need-packed-refusal-requires
+unfolding swiss
 packed-refusal-requires c κs = low-line (rw (c .before .fault .given .1) at (c .before .before .before .before .before .fields .ensures))
 
 enum-known-counts : tie.Need-enum-known-counts
 enum-known-counts c = search needs
 
 told-counts-requires : tie.Need-told-counts-requires
+unfolding swiss
 told-counts-requires c κs = few-told (rw (c .before .before .counts .given .1) at (c .before .before .before .before .before .before .fields .ensures)) .0
 
 slice-aggregate-fill : tie.Need-slice-aggregate-fill
@@ -43,12 +46,14 @@ fill-requires : tie.Need-fill-requires
 fill-requires c κs = search needs
 
 cast-result : tie.Need-cast-result
+unfolding swiss
 cast-result c = let at-counts = c .before .before .before .before .before .before .before .before in record { fits = omega (arith, few-told (rw (at-counts .counts .given .1) at (at-counts .before .before .before .before .fields .ensures)) .1) }
 
 same-length : tie.Need-same-length
 same-length c = search needs
 
 returns : tie.Need-returns
+unfolding swiss
 returns c =
     let at-fields = c .before .before .before .before .before .before in
     let at-room = at-fields .before .before in
@@ -63,6 +68,7 @@ same-length-3 : tie.Need-same-length-3
 same-length-3 c = search needs
 
 returns-2 : tie.Need-returns-2
+unfolding swiss
 returns-2 c =
     let at-counts = c .before .before .before .before .before .before .before .before in
     let at-fields = at-counts .before .before .before .before in

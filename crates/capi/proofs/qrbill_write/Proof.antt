@@ -1,5 +1,6 @@
 -- `capi::qrbill_write` meets its contract: what the writer answers packs. Assumes nothing.
 use Rattle.packing.proofs.Calls.{written-packed, writing-packs}
+use Rattle.swiss.specs.Swiss.{swiss}
 use borrow.Author.Needs.{needs}
 use Rattle.capi.proofs.Packs.{packs}
 use Rattle.capi.proofs.qrbill_write.Statement.{statement}
@@ -15,12 +16,14 @@ write-requires : tie.Need-write-requires
 write-requires c κs = search needs
 
 packed-laying-requires : tie.Need-packed-laying-requires
+unfolding swiss
 packed-laying-requires c κs = writing-packs packs (c .before .before .write .ensures) (search needs)
 
 same-length : tie.Need-same-length
 same-length c = search needs
 
 returns : tie.Need-returns
+unfolding swiss
 returns c = rw (← c .before .before .before .before .before .break-for .ensures) (written-packed (c .before .before .before .write .ensures) (c .before .before .before .before .before .before .told-count .ensures) (c .packed-laying .ensures))
 
 pub qrbill-write-spec : {M : Type 1} → statement M

@@ -1,15 +1,14 @@
--- `swiss_address::address` meets its contract: it is absent, or it is there. Assumes nothing.
-use mathlib.Core.Bool.{true, and-eq-true-iff}
-use mathlib.Core.List.{List, _++_}
-use mathlib.Core.Path.{_≡_, refl, _∙_}
+-- `swiss_address::address` meets its contract: what 2.4 takes is not of type K, and what it does not take is, or is not. Assumes nothing.
+use mathlib.Core.Bool.{true, false}
+use mathlib.Core.List.{List}
+use mathlib.Core.Path.{_≡_, sym, ap, _∙_}
 use Rattle.sieve.specs.Bytes.{Bytes}
 use Rattle.sieve.specs.Lines.{cut, linesOf}
-use Rattle.sieve.specs.Rules.{When, isEmpty}
-use Rattle.swiss.specs.Swiss.{address}
-use Rattle.findings.specs.Findings.{finds}
-use Rattle.findings.proofs.Looking.{numbered, group-stops, group-passed}
-use Rattle.swiss_address.specs.Addresses.{absentIf, addressee, locality}
-use Rattle.swiss_address.proofs.Addresses.{there, gone}
+use Rattle.sieve.specs.Rules.{When}
+use Rattle.swiss.specs.Swiss.{isCombined}
+use Rattle.findings.specs.declared.Finding.{Finding}
+use Rattle.swiss_address.specs.Addresses.{absentIf}
+use Rattle.swiss_address.proofs.Addresses.{alike, not-of-K, combined-there}
 use borrow.Author.Needs.{needs}
 use Rattle.swiss_address.proofs.address.Statement.{statement}
 use Rattle.swiss_address.proofs.address.Tie as tie
@@ -20,44 +19,65 @@ ls c = linesOf (cut (c .args .payload .now))
 abbrev absent : tie.Start → When
 absent c = absentIf (c .args .optional) (c .args .n)
 
-is-gone : (c : tie.Then1) → absent (c .before .before .before) (ls (c .before .before .before)) ≡ true
-is-gone c = rw (c .before .line .ensures) at (c .if1 .taken)
+-- where the type is tested, from behind its tests
+abbrev not-of-S : tie.After-same → tie.Else1
+not-of-S c = c .before .before .before .before
 
-as-there : (c : tie.Else1) → let s = c .before .before .before in finds (addressee (s .args .n) ++ locality (s .args .n)) (ls s) ≡ finds (address (s .args .n) (absent s)) (ls s)
-as-there c = let s = c .before .before .before in there (ls s) (s .args .n) (absent s) (rw (c .before .line .ensures) at (c .if1 .left))
+abbrev start : tie.Else1 → tie.Start
+start c = c .before .before .before .before
 
-line-requires : tie.Need-line-requires
-line-requires c κs = search needs
+-- of type K, or not
+is-combined : (c : tie.Then2) → let s = start (not-of-S (c .before)) in isCombined (s .args .edition) (s .args .n) (ls s) ≡ true
+is-combined c = rw (c .before .before .before .permits-combined .ensures, c .before .same .ensures, c .before .before .before .before .line .ensures) at (c .if2 .taken)
 
-vacant-requires : tie.Need-vacant-requires
-vacant-requires c κs = search needs
+is-not-combined : (c : tie.Else2) → let s = start (not-of-S (c .before)) in isCombined (s .args .edition) (s .args .n) (ls s) ≡ false
+is-not-combined c = rw (c .before .before .before .permits-combined .ensures, c .before .same .ensures, c .before .before .before .before .line .ensures) at (c .if2 .left)
+
+structured-requires : tie.Need-structured-requires
+structured-requires c κs = search needs
 
 returns : tie.Need-returns
 returns c =
     let s = c .before .before .before .before in
-    c .vacant .ensures ∙ gone (ls s) (s .args .n) (absent s) (is-gone (c .before)) (and-eq-true-iff (s .args .optional) (isEmpty (s .args .n) (ls s)) .0 (is-gone (c .before)) .1)
+    let found = c .before .before .structured .ensures in
+    found ∙ alike (ls s) (s .args .n) (absent s) (s .args .edition) (not-of-K (ls s) (s .args .n) (absent s) (s .args .edition) (sym (ap (λ (f : Finding). f .number) found) ∙ c .if1 .taken))
 
-addressee-requires : tie.Need-addressee-requires
-addressee-requires c κs = search needs
+line-requires : tie.Need-line-requires
+line-requires c κs = search needs
+
+permits-combined-requires : tie.Need-permits-combined-requires
+permits-combined-requires c κs = search needs
+
+slice-aggregate-same : tie.Need-slice-aggregate-same
+slice-aggregate-same c = search needs
+
+same-requires : tie.Need-same-requires
+same-requires c κs = search needs
+
+combined-requires : tie.Need-combined-requires
+combined-requires c κs = search needs
 
 returns-2 : tie.Need-returns-2
-returns-2 c = group-stops _ (addressee _) (locality _) (c .before .before .addressee .ensures) (c .if2 .taken) ∙ as-there (c .before .before .before)
-
-locality-requires : tie.Need-locality-requires
-locality-requires c κs = search needs
+returns-2 c =
+    let s = start (not-of-S (c .before .before)) in
+    c .combined .ensures ∙ combined-there (ls s) (s .args .n) (s .args .optional) (s .args .edition) (is-combined (c .before))
 
 returns-3 : tie.Need-returns-3
-unfolding numbered
-returns-3 c = group-passed _ (addressee _) (locality _) refl (c .before .before .before .addressee .ensures) (c .before .if2 .left) (c .locality .ensures) ∙ as-there (c .before .before .before .before)
+returns-3 c =
+    let at-type = not-of-S (c .before) in
+    let s = start at-type in
+    at-type .before .before .structured .ensures ∙ alike (ls s) (s .args .n) (absent s) (s .args .edition) (is-not-combined c)
 
 pub address-spec : {M : Type 1} → statement M
 address-spec =
     tie.close
     (tie.spec
-    line-requires
-    vacant-requires
+    structured-requires
     returns
-    addressee-requires
+    line-requires
+    permits-combined-requires
+    slice-aggregate-same
+    same-requires
+    combined-requires
     returns-2
-    locality-requires
     returns-3)

@@ -5,6 +5,7 @@ use mathlib.Core.Path.{_≡_, refl, _∙_}
 use Rattle.sieve.specs.Bytes.{Bytes}
 use Rattle.sieve.specs.Lines.{cut, linesOf}
 use Rattle.sieve.specs.Rules.{Rule, isLast}
+use Rattle.swiss.specs.declared.Edition.{Edition}
 use Rattle.swiss.specs.Limits.{procedureMost}
 use Rattle.swiss.specs.Swiss.{reference, information, pairing, together}
 use Rattle.findings.specs.declared.Finding.{Finding}
@@ -48,8 +49,8 @@ of-33 = of-text 33 (isLast 33) procedureMost
 abbrev of-34 : List Rule
 of-34 = of-text 34 (isLast 34) procedureMost
 
-abbrev of-several : List Rule
-of-several = pairing ∷ together ∷ []
+abbrev of-several : Edition → List Rule
+of-several e = pairing e ∷ together ∷ []
 
 reference-is : (c : tie.After-reference) → c .reference .result ≡ finds reference (ls (c .before .before .before .before))
 reference-is c = rw (c .before .line2 .ensures, c .before .before .line .ensures) at (c .reference .ensures) ∙ of-reference _
@@ -67,15 +68,15 @@ line-34-is c = rw (c .before .line7 .ensures, start-of-3 (passed-33 c) .pre .cou
 
 -- what is found behind a group that keeps its rules
 
-behind-reference : (c : tie.Else1) {g : Finding} → let s = start c in g ≡ finds (information ++ of-33 ++ of-34 ++ of-several) (ls s) → g ≡ finds back (ls s)
+behind-reference : (c : tie.Else1) {g : Finding} → let s = start c in g ≡ finds (information ++ of-33 ++ of-34 ++ of-several (s .args .edition)) (ls s) → g ≡ finds (back (s .args .edition)) (ls s)
 unfolding back flatten numbered
 behind-reference c = group-passed _ reference _ refl (reference-is (c .before .before)) (c .if1 .left)
 
-behind-information : (c : tie.Else2) {g : Finding} → let s = start-of-2 c in g ≡ finds (of-33 ++ of-34 ++ of-several) (ls s) → g ≡ finds back (ls s)
+behind-information : (c : tie.Else2) {g : Finding} → let s = start-of-2 c in g ≡ finds (of-33 ++ of-34 ++ of-several (s .args .edition)) (ls s) → g ≡ finds (back (s .args .edition)) (ls s)
 unfolding numbered
 behind-information c e = behind-reference (passed-reference (c .before .before)) (group-passed _ information _ refl (information-is (c .before .before)) (c .if2 .left) e)
 
-behind-33 : (c : tie.Else3) {g : Finding} → let s = start-of-3 c in g ≡ finds (of-34 ++ of-several) (ls s) → g ≡ finds back (ls s)
+behind-33 : (c : tie.Else3) {g : Finding} → let s = start-of-3 c in g ≡ finds (of-34 ++ of-several (s .args .edition)) (ls s) → g ≡ finds (back (s .args .edition)) (ls s)
 unfolding numbered
 behind-33 c e = behind-information (passed-information (c .before .before)) (chain-passed _ of-33 _ refl (line-33-is (c .before .before)) (c .if3 .left) e)
 
@@ -132,7 +133,7 @@ together-requires c κs = start-of-3 (passed-33 (c .before .before)) .pre .liste
 
 returns-5 : tie.Need-returns-5
 unfolding numbered
-returns-5 c = behind-33 (passed-33 (c .before .before .before)) (chain-passed _ of-34 of-several refl (line-34-is (c .before .before .before)) (c .before .if4 .left) (c .together .ensures))
+returns-5 c = behind-33 (passed-33 (c .before .before .before)) (chain-passed _ of-34 (of-several (start-of-3 (passed-33 (c .before .before .before)) .args .edition)) refl (line-34-is (c .before .before .before)) (c .before .if4 .left) (c .together .ensures))
 
 pub back-spec : {M : Type 1} → statement M
 back-spec =

@@ -47,7 +47,7 @@ unfolding middle flatten emptyFrom numbered
 returns-3 c =
     let at-payment = c .before .before .before in
     group-passed _ (vacant 12) _ refl (at-payment .before .before .before .before .before .vacant .ensures) (at-payment .before .before .before .if1 .left)
-    (group-passed _ payment (address 21 (isEmpty 21)) refl (payment-is at-payment) (c .before .if2 .left) (c .address .ensures))
+    (group-passed _ payment (address (c .before .before .before .before .before .before .before .before .before .before .args .edition) 21 (isEmpty 21)) refl (payment-is at-payment) (c .before .if2 .left) (c .address .ensures))
 
 pub middle-spec : {M : Type 1} → statement M
 middle-spec =

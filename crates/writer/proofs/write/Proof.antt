@@ -3,13 +3,11 @@ use Prim.Native.Nat.{_<_}
 use native.Mathlib.Omega.{arith}
 use lib.ListN.{length}
 use borrow.Author.Needs.{needs}
-use Rattle.swiss.specs.Swiss.{swiss}
 use Rattle.joining.proofs.Stages.{short-list}
 use Rattle.writer.proofs.write.Statement.{statement}
 use Rattle.writer.proofs.write.Tie as tie
 
 returns : tie.Need-returns
-unfolding swiss
 returns c =
     let short : length (c .before .before .before .before .args .places .now) < 102 = omega (arith, c .if1 .taken) in
     short-list short

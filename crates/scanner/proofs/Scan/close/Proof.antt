@@ -8,7 +8,7 @@ use Rattle.scanner.proofs.Scan.close.Statement.{statement}
 use Rattle.scanner.proofs.Scan.close.Tie as tie
 
 returns : tie.Need-returns
-returns c = over-closed _ _ (omega (arith, c .if1 .taken))
+returns c = over-closed _ _ _ (omega (arith, c .if1 .taken))
 
 sub-read : tie.Need-sub-read
 sub-read c = search needs
@@ -28,7 +28,7 @@ same-length : tie.Need-same-length
 same-length c = search needs
 
 returns-2 : tie.Need-returns-2
-returns-2 c = held-closed _ _ (omega (arith, c .before .before .before .before .before .before .before .if1 .left)) (c .before .before .read .ensures)
+returns-2 c = held-closed _ _ _ (omega (arith, c .before .before .before .before .before .before .before .if1 .left)) (c .before .before .read .ensures)
 
 pub close-spec : {M : Type 1} → statement M
 close-spec =
