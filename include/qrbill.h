@@ -9,8 +9,8 @@
    as such: 16 bits, and 32 for the places of a pile. No pointer is null, not even where the length
    is 0.
    What stays. The calls only read what is lent as const. The list of qrbill_places and of
-   girocode_places, the answers of qrbill_pile, the counts of qrbill_swift and a destination are
-   written to only where the call succeeds, and then only in front: what lies behind stays, to the
+   girocode_places, the answers of qrbill_pile, the counts of qrbill_swift and qrbill_mend and a
+   destination are written to only where the call succeeds, and then only in front: what lies behind stays, to the
    last byte. So it is with the room of qrbill_hand, but that what is written there lies behind what
    is held.
    Overlap. What is written to lies apart from all else that is lent to the same call. What is only
@@ -154,6 +154,31 @@ uint32_t qrbill_pile(const uint8_t *buffer, size_t length, const uint32_t *place
 
 uint32_t qrbill_swift(const uint8_t *payload, size_t length, uint8_t *destination, size_t room,
                       uint16_t *counts, size_t numbers);
+
+/* A payload that a mail program mangled, mended: up to 4,096 bytes. What qrbill_read accepts comes back
+   unchanged, with all counts 0. Else, in this order:
+
+   1   each CR LF, lone CR or lone LF becomes LF
+   2   spaces that end a line, just before a break or the payload's end, go; leading ones stay
+   3   spaces within lines 4 and 29, the account and the reference, go
+   4   empty last lines past line 31 go
+
+   No other byte differs, and nothing else is mended: tabs and no-break spaces stay, as do quotation
+   marks of mail and the soft breaks and =XX of quoted-printable text, which is to be decoded before.
+   If qrbill_read accepts what comes of it, the answer is the number of bytes, at most 997, which are
+   the first of the destination; the first three of `counts` are then the breaks that were not LF, the
+   spaces taken, and the lines dropped. Mending a mended payload changes nothing.
+
+   Else the answer is a refusal, and neither the destination nor `counts` has changed. In this order:
+
+    2, line 0      over 4,096 bytes
+                   what qrbill_read says of the mended bytes: a line of those, and 2 for over 997
+   15, line 0      there is less room than bytes, or `counts` has fewer than three numbers */
+#define QRBILL_MENDED_BYTES 997
+#define QRBILL_MEND_COUNTS 3
+
+uint32_t qrbill_mend(const uint8_t *payload, size_t length, uint8_t *destination, size_t room,
+                     uint16_t *counts, size_t numbers);
 
 /* A payload that comes in bits, as from a serial scanner: each is handed over as it arrives, and is
    put behind what is held. `held` is a room of the caller's, of `room` bytes, and its first `length`

@@ -14,6 +14,8 @@
                                     payload, `outside` is one that begins past the buffer
     fields(PAYLOAD, ROOM)           SWIFT fields in so many bytes: their length, the lines of each, how many
                                     characters were cut and how many replaced
+    mend(PAYLOAD, ROOM)             a payload mended in so many bytes: their length, breaks that were not LF,
+                                    spaces taken and lines dropped
     hand_over(ROOM, LENGTH, BIT)    a bit handed over in a room of so many bytes, of which so many are held
     scan(BIT, .., NUMBERS)          a payload in bits by value, closed with a list of so many numbers
     remainder97(TEXT)               the remainder by 97 of a text, its first four characters moved
@@ -24,7 +26,7 @@
 girocode's, `.._by_table` are remainders by the table. The calls
 for C are asked by their own names: `qrbill_places` and `girocode_places` as `read`, `qrbill_read` and
 `girocode_read` with a payload alone, `qrbill_line` and `girocode_line` with a line's number, and
-`qrbill_swift` as `fields`, with how many numbers are lent for the counts.
+`qrbill_swift` as `fields` and `qrbill_mend` as `mend`, with how many numbers are lent for the counts.
 
 A payload is `case NAME`, or `case NAME with N: TEXT`, where line N is another; every text is written as
 in case files (tests/casefile.py), and so is an answer. It has the lent memory: 7777 and `_` stand where
@@ -45,7 +47,8 @@ from reference import girocode, qrbill
 from reference.glance import glance
 from reference.numbers import made
 from reference.pile import piled
-from reference.swift import COUNTS, Fields, fields
+from reference.mender import Mended, mended
+from reference.swift import Fields, fields
 from reference.scanner import handed
 
 QUESTION = re.compile(r'(\w+)\((.*)\)')
@@ -244,22 +247,35 @@ def piling(which, for_c, *words):
                  right + shown_list([] if refused else entries, room))
 
 
-def mapping(which, payload, room, numbers=None, edition='2.4'):
-    """SWIFT fields; for C where so many numbers are lent for the counts."""
-    payload, room = text_of(payload), int(room)
-    lent = COUNTS if numbers is None else int(numbers)
-    answer = fields(payload, room, lent, edition)
-    laid = isinstance(answer, Fields)
-    counts = [*answer.lines, answer.cut, answer.replaced] if laid else []
-    if numbers is not None:
-        told = b'%d' % len(answer.data) if laid else packed(qrbill, answer)
-        told += shown_list(counts, lent)
-    elif laid:
-        told = b'%d bytes, lines %d %d %d, cut %d, replaced %d' % (len(answer.data), *counts)
+def swift_told(payload, room, *numbers, **edition):
+    """SWIFT fields: the answer, what is laid, the counts, and all this in words."""
+    answer = fields(payload, room, *numbers, **edition)
+    if not isinstance(answer, Fields):
+        return answer, b'', [], b''
+    counts = [*answer.lines, answer.cut, answer.replaced]
+    return answer, answer.data, counts, b'lines %d %d %d, cut %d, replaced %d' % tuple(counts)
+
+
+def mend_told(payload, room, *numbers):
+    """The same of a mended payload."""
+    answer = mended(payload, room, *numbers)
+    if not isinstance(answer, Mended):
+        return answer, b'', [], b''
+    counts = [*answer.counts]
+    return answer, answer.data, counts, b'breaks %d, spaces %d, lines %d' % answer.counts
+
+
+def counted(which, made, payload, room, *numbers):
+    """A call with counts beside its number; for C where so many numbers are lent for them."""
+    payload, room, lent = text_of(payload), int(room), [*map(int, numbers)]
+    answer, data, counts, words = made(payload, room, *lent)
+    refused = isinstance(answer, qrbill.Refused)
+    if lent:
+        told = packed(qrbill, answer) if refused else b'%d' % len(data)
+        told += shown_list(counts, *lent)
     else:
-        told = spoken(qrbill, answer)
-    right = told + shown_bytes(answer.data if laid else b'', room)
-    return asked(which, [room, lent], [payload], right)
+        told = spoken(qrbill, answer) if refused else b'%d bytes, ' % len(data) + words
+    return asked(which, [room, *lent], [payload], told + shown_bytes(data, room))
 
 
 def handing(which, room, length, bit):
@@ -315,8 +331,10 @@ ASKERS = {
     'make_iban': partial(making, b'i', 'iban', spoken),
     'qrbill_make_iban': partial(making, b'I', 'iban', packed),
     'pile': partial(piling, b'p', False), 'qrbill_pile': partial(piling, b'P', True),
-    'fields': partial(mapping, b'f'), 'fields_22': partial(mapping, b'e', edition='2.2'),
-    'qrbill_swift': partial(mapping, b'F'),
+    'fields': partial(counted, b'f', swift_told),
+    'fields_22': partial(counted, b'e', partial(swift_told, edition='2.2')),
+    'qrbill_swift': partial(counted, b'F', swift_told),
+    'mend': partial(counted, b'm', mend_told), 'qrbill_mend': partial(counted, b'M', mend_told),
     'hand_over': partial(handing, b'o'), 'qrbill_hand': partial(handing, b'O'), 'scan': scanning,
     'remainder_after': partial(remainder_after, b'1'),
     'remainder_after_by_table': partial(remainder_after, b'2'),

@@ -1,22 +1,12 @@
-"""The C host that makes SWIFT fields, over a library, and the reference beside it."""
+"""Bills whose SWIFT fields are made by the C host (tests/counted_calls.py), and the reference beside it."""
 
-import struct
-import subprocess
-from pathlib import Path
-from typing import NamedTuple
-
-import kit
 from casefile import bill_lines
 from chance import Dice
+from counted_calls import MOST_NUMBERS, CountedCall, Lent
 from damage import BILLS, CASES, damaged
 from reference.swift import COUNTS, Fields, fields
 
-HOST = kit.ROOT / 'tests' / 'host' / 'swift.c'
-
-# As in swift.c.
-MARK, MOST_PAYLOAD, MOST_ROOM, MOST_NUMBERS = b'\xAA', 2000, 400, 8
-HEAD = struct.Struct('<3I')
-RESULT = struct.Struct(f'<I{MOST_ROOM}s{2 * MOST_NUMBERS}s')
+MOST_PAYLOAD, MOST_ROOM = 2000, 400
 
 BASE = bill_lines('B')
 REFERENCES = {  # the account beside each kind of reference
@@ -28,15 +18,9 @@ ALLOWED = [*map(chr, range(0x20, 0x7F)), *map(chr, range(0xA0, 0x180)),
            *map(chr, range(0x218, 0x21C)), '€']
 
 
-class Mapping(NamedTuple):
-    """A payload, room for its fields, and numbers for the counts."""
-    payload: bytes
-    room: int = MOST_ROOM
-    numbers: int = COUNTS
-
-    def packed(self):
-        """As swift.c reads it."""
-        return HEAD.pack(len(self.payload), self.room, self.numbers) + self.payload
+def mapping(payload, room=MOST_ROOM, numbers=COUNTS):
+    """A payload with room for its fields and numbers for the counts."""
+    return Lent(payload, room, numbers)
 
 
 def bill(*others):
@@ -128,13 +112,13 @@ def lent(payload):
     size = len(made.data) if isinstance(made, Fields) else 0
     for room in {0, max(size - 1, 0), size, MOST_ROOM}:
         for numbers in (0, COUNTS - 1, COUNTS, MOST_NUMBERS):
-            yield Mapping(payload, room, numbers)
+            yield mapping(payload, room, numbers)
 
 
 def mappings():
     """Each bill at an edge; some of them with all that may be lent."""
     for some in (cut_lines, streets, messages, characters, others):
-        yield from map(Mapping, some())
+        yield from map(mapping, some())
     for payload in (bill(), bill({19: ''}), bill({1: 'SPD'}), b'', *longest_bills()):
         yield from lent(payload)
 
@@ -147,7 +131,7 @@ def random_mappings(seed, count):
     for _ in range(count):
         payload = next(spoiled) if dice.below(4) == 0 else drawn_bill(dice)
         room = dice.below(MOST_ROOM) if dice.below(8) == 0 else MOST_ROOM
-        yield Mapping(payload[:MOST_PAYLOAD], room, COUNTS - (dice.below(16) == 0))
+        yield mapping(payload[:MOST_PAYLOAD], room, COUNTS - (dice.below(16) == 0))
 
 
 def drawn_bill(dice):
@@ -167,40 +151,14 @@ def text_of(dice, most):
     return ''.join(dice.pick(alphabet) for _ in range(dice.below(most + 1)))
 
 
-# The host.
+# The call.
 
-def expected(mapping):
-    """What the host should write."""
-    made = fields(*mapping)
+def given(payload, room, numbers):
+    """What it should give."""
+    made = fields(payload, room, numbers)
     if isinstance(made, Fields):
-        answer, data = len(made.data), made.data
-        counts = struct.pack('<5H', *made.lines, made.cut, made.replaced)
-    else:
-        answer, data, counts = 1000 * made.number + made.line, b'', b''
-    before = (MOST_ROOM - mapping.room) * MARK
-    spare = 2 * (MOST_NUMBERS - mapping.numbers) * MARK
-    return RESULT.pack(answer, before + data.ljust(mapping.room, MARK),
-                       spare + counts.ljust(2 * mapping.numbers, MARK))
+        return len(made.data), made.data, (*made.lines, made.cut, made.replaced)
+    return 1000 * made.number + made.line, b'', ()
 
 
-def results(program, some):
-    """What the host writes for each; nothing for those that it does not come to."""
-    ran = subprocess.run(kit.command(program), input=b''.join(one.packed() for one in some),
-                         stdout=subprocess.PIPE, check=False, env=kit.environment())
-    return [ran.stdout[start:start + RESULT.size]
-            for start in range(0, RESULT.size * len(some), RESULT.size)]
-
-
-def built_mapper(library: Path, folder: Path) -> Path:
-    """The host, linked to a library with the calls of include/qrbill.h."""
-    return kit.linked(folder / 'swift', kit.compiled(HOST, folder), library)
-
-
-def differing_mappings(program, some):
-    """Those whose results are not the expected ones."""
-    return [one for one, got in zip(some, results(program, some)) if got != expected(one)]
-
-
-def mapping_described(program, mapping):
-    """A text about one whose result is not the expected one."""
-    return f'{mapping}: expected {expected(mapping)}, got {results(program, [mapping])}'
+SWIFT = CountedCall('qrbill_swift', MOST_PAYLOAD, MOST_ROOM, given)

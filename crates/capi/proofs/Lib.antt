@@ -2,6 +2,8 @@ pub mod Packs
 pub mod Made
 pub mod Piled
 pub mod Read
+pub mod Beside
 pub mod Swift
+pub mod Mend
 pub mod Handed
 pub mod OneAnswer

@@ -38,6 +38,9 @@ one-qrbill-pile κs a x y v w h k = (h .number ∙ sym (k .number), ap (λ d. (t
 pub one-qrbill-swift : OneAnswer fn.qrbill_swift.ended fn.qrbill_swift.Reads.Learnt
 one-qrbill-swift κs a x y v w h k = (h .number ∙ sym (k .number), ap₂ (λ d l. (tt, (d, (l, tt)))) (h .lent ∙ sym (k .lent)) (h .told ∙ sym (k .told)))
 
+pub one-qrbill-mend : OneAnswer fn.qrbill_mend.ended fn.qrbill_mend.Reads.Learnt
+one-qrbill-mend κs a x y v w h k = (h .number ∙ sym (k .number), ap₂ (λ d l. (tt, (d, (l, tt)))) (h .lent ∙ sym (k .lent)) (h .told ∙ sym (k .told)))
+
 -- the room at exit too
 pub one-qrbill-hand : OneAnswer fn.qrbill_hand.ended fn.qrbill_hand.Reads.Learnt
 one-qrbill-hand κs a x y v w h k = let e = h ∙ sym k in (ap (λ (t : Scan). t .len) e, ap (λ (t : Scan). (t .bytes, (tt, (tt, tt)))) e)

@@ -1,20 +1,15 @@
--- What is answered of SWIFT fields, packed, is what the call has to answer: it lends the front of its destination, and none of it where the list of counts is too short. Assumes nothing.
+-- What is answered of SWIFT fields, packed, is what the call has to answer. Assumes nothing.
 use Prim.Native.Nat.{ℕ, _-_, _≤_, _<_}
-use native.Mathlib.Nat.{sub-zero}
-use native.Mathlib.Omega.{arith}
-use mathlib.Core.List.{List, [], _∷_, _++_, append-nil}
-use mathlib.Core.Logic.{_≢_}
+use mathlib.Core.List.{List, [], _∷_, _++_}
 use mathlib.Core.Option.{none, Option·none-ne-some}
 use mathlib.Core.Path.{_≡_, refl, sym, ap, _∙_}
 use lib.Dec.{ltb, lit≤}
-use lib.ListN.{length, take, drop, drop-of-length-le}
-use lib.Seq.{take-all}
+use lib.ListN.{length}
 use borrow.Author.Tests.{ltb-false}
-use borrow.Rule.Slice.PartMut.{midOf, putMid, mid-len, put-same}
+use borrow.Rule.Slice.PartMut.{midOf, putMid}
 use Rattle.runs.specs.Laid.{overFitting}
-use Rattle.runs.proofs.Lays.{laid-in}
 use Rattle.sieve.specs.declared.Fault.{Fault}
-use Rattle.sieve.specs.Bytes.{Bytes, over}
+use Rattle.sieve.specs.Bytes.{Bytes}
 use Rattle.sieve.specs.Lines.{cut, linesOf}
 use Rattle.sieve.specs.Paper.{paperFault}
 use Rattle.sieve.specs.Reading.{noRoom}
@@ -27,7 +22,7 @@ use Rattle.swiss.specs.Swiss.{swiss}
 use Rattle.swiss.proofs.Numbers.{small-findings}
 use Rattle.packing.specs.Packing.{packedRefusal}
 use Rattle.packing.specs.Telling.{roomBeside}
-use Rattle.packing.proofs.Telling.{beside, no-more-room, enough-numbers}
+use Rattle.packing.proofs.Telling.{beside}
 use Rattle.swift.specs.declared.Counts.{Counts}
 use Rattle.swift.specs.declared.Mapped.the-variants.{Laid, Refused}
 use Rattle.swift.specs.Fields.{contents, countsOf}
@@ -38,13 +33,14 @@ use Rattle.swift.proofs.Making.{some-content}
 use Rattle.swift.proofs.Promise.{refusal-changes-nothing, laid-in-front, laid-found-nothing, refused-found}
 use Rattle.swift.proofs.Small.{small-counts}
 use Rattle.capi.specs.Calls.{toldCounts, swiftAnswer, IsPackedFields}
+use Rattle.capi.proofs.Beside.{size-part, nothing-told, all-told}
 
 -- what is refused names a line below 1000
 
-abbrev Low : Refusal → Type 0
+abbrev pub Low : Refusal → Type 0
 Low r = r .line < 1000
 
-none-of-none : Each Low (first [])
+pub none-of-none : Each Low (first [])
 unfolding first
 none-of-none r e = absurd (Option·none-ne-some r e)
 
@@ -75,44 +71,21 @@ module _ (p dest : Bytes) (list : List ℕ) (room : ℕ) (is-room : room ≡ roo
   abbrev part : Bytes
   part = midOf 0 (room - 0) dest
 
-  pub within : room ≤ length dest
-  within = rw is-room (no-more-room (length dest) (length list) 5)
-
-  size-part : length part ≡ room
-  size-part = mid-len 0 room dest within ∙ sub-zero room
-
   -- what is found with the part is what is found with all that is lent
   found-alike : first (fieldFindings swiss p (length part)) ≡ first (fieldFindings swiss p (length dest) ++ (noRoom (length list) 5 ∷ []))
   unfolding fieldFindings
   found-alike =
-      ap (λ (n : ℕ). first (fieldFindings swiss p n)) (size-part ∙ is-room)
+      ap (λ (n : ℕ). first (fieldFindings swiss p n)) (size-part dest list 5 room is-room ∙ is-room)
       ∙ beside (first (findings swiss p) ∷ noAmount ls ∷ []) (length (contents ls)) (length dest) (length list) 5 (some-content ls)
 
   pub refused-told : {f : Fault} {after : Bytes} {n : ℕ} → IsMapped swiss p part (Refused f) after → n ≡ packedRefusal (paperFault f) → IsPackedFields swiss p dest list n (putMid 0 (room - 0) dest after) list
   unfolding swiftAnswer
-  refused-told h e =
-      let all = sym found-alike ∙ refused-found h in
-      record { number = rw all e; lent = rw all (ap (putMid 0 (room - 0) dest) (refusal-changes-nothing h) ∙ put-same 0 (room - 0) dest); told = rw all }
+  refused-told h e = nothing-told dest list 5 room is-room (contents ls) (toldCounts (countsOf ls)) (sym found-alike ∙ refused-found h) (refusal-changes-nothing h) e
 
   pub laid-told : {c : Counts} {after : Bytes} {n : ℕ} {l : List ℕ} → IsMapped swiss p part (Laid c) after → n ≡ c .bytes → l ≡ overFitting list (toldCounts c) → IsPackedFields swiss p dest list n (putMid 0 (room - 0) dest after) l
   unfolding swiftAnswer fieldFindings
-  laid-told {c} {after} h e filled =
+  laid-told {c} h e filled =
       let nothing = laid-found-nothing h in
-      let all = sym found-alike ∙ nothing in
       let (told, lent) = laid-in-front h in
       let fits : length (contents ls) ≤ length part = ltb-false _ _ (found-none (ltb (length part) (length (contents ls))) (under 15 0) (each-none (fieldFindings swiss p (length part)) nothing 2)) in
-      let some-room : roomBeside (length dest) (length list) 5 ≢ 0 = λ z. omega (arith, fits, size-part, is-room, z, some-content ls) in
-      let (five, whole) = enough-numbers (length dest) (length list) 5 some-room in
-      let wide : room ≡ length dest = is-room ∙ whole in
-      record {
-        number = rw all (e ∙ ap (λ (d : Counts). d .bytes) told);
-        lent = rw all (front wide lent);
-        told = rw all (filled ∙ laid-in list (toldCounts c) five ∙ ap (λ (d : Counts). over list (toldCounts d)) told);
-      }
-    where
-      front : room ≡ length dest → after ≡ over part (contents ls) → putMid 0 (room - 0) dest after ≡ over dest (contents ls)
-      front w k =
-          let all-of-it : room - 0 ≡ length dest = sub-zero room ∙ w in
-          let none-behind : drop (room - 0) dest ≡ [] = rw all-of-it (drop-of-length-le dest {i = length dest} (omega arith)) in
-          let whole-part : take (room - 0) dest ≡ dest = rw all-of-it (take-all (length dest) dest (omega arith)) in
-          ap (λ (t : Bytes). after ++ t) none-behind ∙ append-nil after ∙ k ∙ ap (λ (d : Bytes). over d (contents ls)) whole-part
+      all-told dest list 5 room is-room (contents ls) (toldCounts (countsOf ls)) (sym found-alike ∙ nothing) refl (some-content ls) fits lent (e ∙ ap (λ (d : Counts). d .bytes) told) (filled ∙ ap (λ (d : Counts). overFitting list (toldCounts d)) told)

@@ -1,4 +1,4 @@
--- What the calls for C answer of the account, of a number that is made, of a pile, and of SWIFT fields. Assumes nothing.
+-- What the calls for C answer of the account, of a number that is made, of a pile, of SWIFT fields, and of a payload that is mended. Assumes nothing.
 use Prim.Native.Nat.{ℕ}
 use mathlib.Core.Bool.{Bool}
 use mathlib.Core.List.{List, [], _∷_, _++_}
@@ -15,8 +15,10 @@ use Rattle.glance.specs.declared.Account.{Account}
 use Rattle.glance.specs.declared.Account.the-variants.{Unknown, At}
 use Rattle.packing.specs.Packing.{packedRefusal, packedPlace, packedLaying}
 use Rattle.numbers.specs.Making.{makeAnswer}
-use Rattle.packing.specs.Telling.{Told, toldOnto}
+use Rattle.packing.specs.Telling.{Told, IsTold, toldOnto}
 use Rattle.pile.specs.Pile.{entries, pileFindings, filledBy}
+use Rattle.mender.specs.declared.Repairs.{Repairs}
+use Rattle.mender.specs.Mending.{mend, mendFindings}
 use Rattle.swift.specs.declared.Counts.{Counts}
 use Rattle.swift.specs.Fields.{contents, countsOf}
 use Rattle.swift.specs.Answering.{fieldFindings}
@@ -52,7 +54,18 @@ swiftAnswer L p dest list =
     toldOnto (contents ls) (toldCounts (countsOf ls)) dest list (first (fieldFindings L p (length dest) ++ (noRoom (length list) 5 ∷ [])))
 
 -- the number r, the destination and the list afterwards
-pub record IsPackedFields (L : Layout) (p dest : Bytes) (list : List ℕ) (r : ℕ) (after : Bytes) (counts : List ℕ) : Type 0 where
-  pub number : r ≡ swiftAnswer L p dest list .number
-  pub lent : after ≡ swiftAnswer L p dest list .dest
-  pub told : counts ≡ swiftAnswer L p dest list .list
+abbrev pub IsPackedFields : Layout → Bytes → Bytes → List ℕ → ℕ → Bytes → List ℕ → Type 0
+IsPackedFields L p dest list r after counts = IsTold (swiftAnswer L p dest list) r after counts
+
+-- what was counted as numbers: breaks that were not LF, spaces taken, lines dropped
+abbrev pub toldRepairs : Repairs → List ℕ
+toldRepairs c = c .breaks ∷ c .spaces ∷ c .lines ∷ []
+
+-- of a payload, a destination and a list: what the mender finds, and last of all room for the three counts
+unfoldable pub mendTold : Bytes → Bytes → List ℕ → Told
+mendTold p dest list =
+    let m = mend p in
+    toldOnto (m .bytes) (toldRepairs (m .repairs)) dest list (first (mendFindings p (m .bytes) (length dest) ++ (noRoom (length list) 3 ∷ [])))
+
+abbrev pub IsPackedMended : Bytes → Bytes → List ℕ → ℕ → Bytes → List ℕ → Type 0
+IsPackedMended p dest list r after counts = IsTold (mendTold p dest list) r after counts

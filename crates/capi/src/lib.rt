@@ -1,7 +1,11 @@
-// Calls for C, all of edition 2.4: the verdict on a payload and the place of a line as one number each, the list of places, the account at a
-// glance, the writer, numbers of our own, a pile of bills, SWIFT fields, and a payload that comes in bits.
+// Calls for C, all of edition 2.4: the verdict on a payload and the place of a line as one number each, the list of places,
+// the account at a glance, the writer, numbers of our own, a pile of bills, SWIFT fields, a payload that comes in bits, and
+// one that is mended.
 use glance::Account;
 use glance::glance;
+use mender::Mended;
+use mender::Repairs;
+use mender::mend;
 use numbers::make_iban;
 use numbers::make_qrr;
 use numbers::make_scor;
@@ -34,7 +38,8 @@ ghost use Rattle.packing.specs.Calls.{packedLine, IsPackedRead, IsPackedWritten
 ghost use Rattle.glance.specs.Glance.{glance, accountAs};
 ghost use Rattle.numbers.specs.Made.{qrrPart, madeQrr, scorPart, madeScor, ibanParts, madeIban};
 ghost use Rattle.capi.specs.Calls.{packedAccount, IsPackedMade, IsPackedPiled};
-ghost use Rattle.capi.specs.Calls.{toldCounts, IsPackedFields};
+ghost use Rattle.capi.specs.Calls.{toldCounts, IsPackedFields, toldRepairs, IsPackedMended};
+ghost use Rattle.mender.specs.Promised.{AreFew};
 ghost use Rattle.swift.specs.Promised.{AreSmall};
 ghost use Rattle.scanner.specs.Scanning.{heldIn, handed};
 
@@ -189,4 +194,34 @@ pub extern "C" fn qrbill_hand(held: &mut [u8], length: usize, bit: &[u8]) -> usi
         ⌜ heldIn (now (held .exit)) r ≡ handed (heldIn (now (held .entry)) length) (now (bit .entry)) ⌝ }
 {
     hand_over(held, length, bit)
+}
+
+// What was counted as numbers: breaks that were not LF, spaces taken, lines dropped.
+fn told_repairs(repairs: Repairs) -> [u16; 3]
+    requires { ⌜ AreFew repairs ⌝ }
+    ensures { λ r. ⌜ r ≡ toldRepairs repairs ⌝ }
+{
+    [
+        repairs.breaks as u16,
+        repairs.spaces as u16,
+        repairs.lines as u16,
+    ]
+}
+
+// How many bytes of a mended payload lie in the destination's front, with the counts in that of the list; else 1000 times
+// the refusal plus the line, and neither has changed.
+#[no_mangle]
+pub extern "C" fn qrbill_mend(payload: &[u8], dest: &mut [u8], list: &mut [u16]) -> u32
+    ensures { λ r.
+        ⌜ IsPackedMended (now (payload .entry)) (now (dest .entry)) (now (list .entry)) r (now (dest .exit))
+        (now (list .exit)) ⌝ }
+{
+    let room = room_beside(dest.len(), list.len(), 3);
+    match mend(payload, &mut dest[0..room]) {
+        Mended::Refused(fault) => packed_refusal(fault),
+        Mended::Length(bytes, repairs) => {
+            fill(list, &told_repairs(repairs));
+            bytes as u32
+        }
+    }
 }

@@ -13,7 +13,7 @@ pub one-told-count : OneAnswer fn.told_count.ended fn.told_count.Reads.Learnt
 one-told-count κs a x y v w h k = (h ∙ sym k, refl)
 
 pub one-room-beside : OneAnswer fn.room_beside.ended fn.room_beside.Reads.Learnt
-one-room-beside κs a x y v w h k = (h ∙ sym k, refl)
+one-room-beside κs a x y v w h k = (h .0 ∙ sym (k .0), refl)
 
 pub one-break-for : OneAnswer fn.break_for.ended fn.break_for.Reads.Learnt
 one-break-for κs a x y v w h k = (h ∙ sym k, refl)

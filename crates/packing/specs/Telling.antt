@@ -3,6 +3,7 @@ use Prim.Native.Nat.{ℕ}
 use mathlib.Core.Bool.{cond}
 use mathlib.Core.List.{List}
 use mathlib.Core.Option.{Option, some, none}
+use mathlib.Core.Path.{_≡_}
 use lib.Dec.{ltb}
 use lib.ListN.{length}
 use Rattle.sieve.specs.Bytes.{Bytes, over}
@@ -14,6 +15,12 @@ pub record Told : Type 0 where
   pub number : ℕ
   pub dest : Bytes
   pub list : List ℕ
+
+-- the number r, the destination and the list afterwards are those
+pub record IsTold (t : Told) (r : ℕ) (after : Bytes) (numbers : List ℕ) : Type 0 where
+  pub number : r ≡ t .number
+  pub lent : after ≡ t .dest
+  pub told : numbers ≡ t .list
 
 -- bytes are laid in the front of the destination and numbers in that of the list, where nothing is found; else neither changes
 abbrev pub toldOnto : Bytes → List ℕ → Bytes → List ℕ → Option Refusal → Told

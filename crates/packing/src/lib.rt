@@ -82,7 +82,7 @@ pub fn break_for(crlf: bool) -> Break
 // The room that a call lends on which tells numbers beside its answer: none, so that nothing is laid, where the list has
 // too few numbers for them. Room is asked for last, so every other refusal still comes first.
 pub fn room_beside(room: usize, numbers: usize, told: usize) -> usize
-    ensures { λ r. ⌜ r ≡ roomBeside room numbers told ⌝ }
+    ensures { λ r. ⌜ (r ≡ roomBeside room numbers told) × (r ≤ room) ⌝ }
 {
     if numbers < told {
         return 0;

@@ -4,7 +4,7 @@ use mathlib.Core.Path.{refl, ap, _∙_}
 use borrow.Author.Needs.{needs}
 use Rattle.swiss.specs.Swiss.{swiss}
 use Rattle.runs.specs.Laid.{overFitting}
-use Rattle.capi.proofs.Swift.{low-line, few-told, within, refused-told, laid-told}
+use Rattle.capi.proofs.Swift.{low-line, few-told, refused-told, laid-told}
 use Rattle.capi.proofs.qrbill_swift.Statement.{statement}
 use Rattle.capi.proofs.qrbill_swift.Tie as tie
 
@@ -18,9 +18,7 @@ part-fields-start : tie.Need-part-fields-start
 part-fields-start c = search needs
 
 part-fields-end : tie.Need-part-fields-end
-part-fields-end c =
-    let a = c .before .before .before .before .args in
-    within (a .payload .now) (a .dest .now) (a .list .now) (c .room-beside .result) (c .room-beside .ensures)
+part-fields-end c = search needs
 
 fields-requires : tie.Need-fields-requires
 fields-requires c κs = search needs
@@ -59,7 +57,7 @@ returns c =
     let at-room = at-fields .before .before in
     let a = at-room .before .before .before .before .args in
     let mapped = rw (c .before .before .fault .given .1) at (at-fields .fields .ensures) in
-    refused-told (a .payload .now) (a .dest .now) (a .list .now) (at-room .room-beside .result) (at-room .room-beside .ensures) mapped (c .packed-refusal .ensures)
+    refused-told (a .payload .now) (a .dest .now) (a .list .now) (at-room .room-beside .result) (at-room .room-beside .ensures .0) mapped (c .packed-refusal .ensures)
 
 same-length-2 : tie.Need-same-length-2
 same-length-2 c = search needs
@@ -75,7 +73,7 @@ returns-2 c =
     let at-room = at-fields .before .before in
     let a = at-room .before .before .before .before .args in
     let mapped = rw (at-counts .counts .given .1) at (at-fields .fields .ensures) in
-    laid-told (a .payload .now) (a .dest .now) (a .list .now) (at-room .room-beside .result) (at-room .room-beside .ensures) mapped refl (c .before .before .before .fill .ensures .1 ∙ ap (overFitting (a .list .now)) (c .before .before .before .before .before .told-counts .ensures))
+    laid-told (a .payload .now) (a .dest .now) (a .list .now) (at-room .room-beside .result) (at-room .room-beside .ensures .0) mapped refl (c .before .before .before .fill .ensures .1 ∙ ap (overFitting (a .list .now)) (c .before .before .before .before .before .told-counts .ensures))
 
 pub qrbill-swift-spec : {M : Type 1} → statement M
 qrbill-swift-spec =

@@ -1,10 +1,11 @@
-/* Makes the SWIFT fields of each record of standard input, and writes what comes of it: a struct
-   result.
+/* Makes a call that gives counts beside its number, CALL, for each record of standard input, and
+   writes what comes of it: a struct result.
 
    A record is three numbers of 32 bits, the lowest byte first as x86-64 has it, the length of the
-   payload, the room for the fields and how many numbers are lent for the counts, and then the
+   payload, the room for the destination and how many numbers are lent for the counts, and then the
    payload. What is lent ends at a wall each, and both rooms are full of marks before the call, as is
-   what lies in front of them. The host ends with status 1 where the call changed the payload. */
+   what lies in front of them. The host ends with status 1 where the call changed the payload.
+   CALL, MOST_PAYLOAD and MOST_ROOM are given to the compiler, by tests/counted_calls.py. */
 
 #include <stdbool.h>
 #include <stdint.h>
@@ -14,7 +15,7 @@
 #include "qrbill.h"
 #include "wall.h"
 
-enum { MARK = 0xAA, MOST_PAYLOAD = 2000, MOST_ROOM = 400, MOST_NUMBERS = 8 };
+enum { MARK = 0xAA, MOST_NUMBERS = 8 };
 
 struct head {
     uint32_t length, room, numbers;
@@ -44,8 +45,8 @@ static bool answer(struct result *result)
     uint8_t *destinations = memset(destination_end - MOST_ROOM, MARK, MOST_ROOM);
     uint8_t *counts = memset(counts_end - sizeof result->counts, MARK, sizeof result->counts);
     uint8_t *lent = counts_end - head.numbers * sizeof(uint16_t);
-    result->answer = qrbill_swift(payload, head.length, destination_end - head.room, head.room,
-                                  (uint16_t *)(void *)lent, head.numbers);
+    result->answer = CALL(payload, head.length, destination_end - head.room, head.room,
+                          (uint16_t *)(void *)lent, head.numbers);
     memcpy(result->destination, destinations, MOST_ROOM);
     memcpy(result->counts, counts, sizeof result->counts);
     return memcmp(payload, given, head.length) == 0;

@@ -1,0 +1,9 @@
+pub mod Bytewise
+pub mod Sweeps
+pub mod Ends
+pub mod Counted
+pub mod Passing
+pub mod Answers
+pub mod Likeness
+pub mod Promise
+pub mod OneAnswer
