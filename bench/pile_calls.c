@@ -1,9 +1,11 @@
-/* Judges a pile of bills, or the same bills one by one, for bench/pile to count instructions:
+/* Judges a pile of bills, or the same bills one by one, or tries them under both editions, for
+   bench/pile and bench/season to count instructions:
 
-       pile_calls pile|single TIMES < bills
+       pile_calls pile|single|both TIMES < bills
 
    Standard input has a length of four bytes, the lowest first, and that many bytes for each bill. It
-   writes how many of them are accepted, after a first round, and then goes round TIMES times. */
+   writes how many of them are accepted, or the sums, after a first round, and then goes round TIMES
+   times. */
 
 #include <stdio.h>
 #include <stdlib.h>
@@ -15,6 +17,7 @@ enum { MOST_BILLS = 500, MOST_BYTES = 1000 };
 static uint8_t buffer[MOST_BILLS * MOST_BYTES];
 static uint32_t places[2 * MOST_BILLS], count;
 static uint16_t answers[2 * MOST_BILLS];
+static uint64_t sums[QRBILL_SUMS];
 
 static void read_bills(void)
 {
@@ -34,6 +37,11 @@ static void go_round(char kind)
         qrbill_pile(buffer, sizeof buffer, places, 2 * MOST_BILLS, count, answers, 2 * MOST_BILLS);
         return;
     }
+    if (kind == 'b') {
+        qrbill_season(buffer, sizeof buffer, places, 2 * MOST_BILLS, count, answers, MOST_BILLS, sums,
+                      QRBILL_SUMS);
+        return;
+    }
     for (uint32_t i = 0; i < count; i++) {
         const uint32_t answer = qrbill_read(buffer + places[2 * i], places[2 * i + 1]);
         answers[2 * i] = (uint16_t)(answer / 1000);
@@ -50,7 +58,10 @@ int main(int argc, char **argv)
     go_round(argv[1][0]);
     for (uint32_t i = 0; i < count; i++)
         accepted += answers[2 * i] == 0;
-    printf("%u of %u\n", accepted, (unsigned)count);
+    if (argv[1][0] == 'b')
+        printf("%llu %llu\n", (unsigned long long)sums[0], (unsigned long long)sums[1]);
+    else
+        printf("%u of %u\n", accepted, (unsigned)count);
     for (int left = atoi(argv[2]); left > 0; left--)
         go_round(argv[1][0]);
     return 0;

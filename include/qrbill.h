@@ -6,12 +6,13 @@
 
    What is lent. A payload is `length` bytes at `payload`, of any content and any length; a text, a
    list and a destination are lent in the same way, a list as so many numbers of its type, aligned
-   as such: 16 bits, and 32 for the places of a pile. No pointer is null, not even where the length
-   is 0.
+   as such: 16 bits, 32 for the places of a pile, and 64 for sums. No pointer is null, not even where
+   the length is 0.
    What stays. The calls only read what is lent as const. The list of qrbill_places and of
-   girocode_places, the answers of qrbill_pile, the counts of qrbill_swift and qrbill_mend and a
-   destination are written to only where the call succeeds, and then only in front: what lies behind stays, to the
-   last byte. So it is with the room of qrbill_hand, but that what is written there lies behind what
+   girocode_places, the answers of qrbill_pile, the list and the sums of qrbill_season, the counts of
+   qrbill_swift and qrbill_mend and a destination are written to only where the call succeeds, and then
+   only in front: what lies behind stays, to the last byte. So it is with the room of qrbill_hand, but
+   that what is written there lies behind what
    is held.
    Overlap. What is written to lies apart from all else that is lent to the same call. What is only
    read may overlap.
@@ -129,6 +130,25 @@ uint32_t qrbill_make_iban(const uint8_t *country, size_t country_length, const u
    15, 0             `answers` has room for fewer than two numbers a bill */
 uint32_t qrbill_pile(const uint8_t *buffer, size_t length, const uint32_t *places, size_t numbers,
                      uint32_t count, uint16_t *answers, size_t room);
+
+/* Last season again, before an office switches editions: `count` bills that lie in the buffer as in
+   qrbill_pile, each tried under Guidelines 2.2 and 2.4. The answer is how many bills the two differ on,
+   in the number or the line that a pile would have for them, and the first of `list` are their
+   positions, from 1 and ascending. The first two of `sums` are then the sums in cents of the amounts
+   that 2.2 accepts, of CHF and of EUR; a bill without amount counts 0. What lies behind the positions
+   and the sums stays.
+
+   Else neither `list` nor `sums` has changed, and the answer is 1000 times a refusal plus a position:
+
+    5, 0             more than 500 bills, or more than `places` has two numbers for
+   14, the position  the place of a bill lies outside the buffer; the first such, from 1
+   15, 0             `list` has room for fewer numbers than there are bills, however many are to be
+                     listed, or `sums` for fewer than two */
+#define QRBILL_SUMS 2
+
+uint32_t qrbill_season(const uint8_t *buffer, size_t length, const uint32_t *places, size_t numbers,
+                       uint32_t count, uint16_t *list, size_t room, uint64_t *sums,
+                       size_t sums_room);
 
 /* The contents of SWIFT's fields 59a, 32B and 70 for a bill that is paid from abroad, without tags,
    all lines parted by CR LF:

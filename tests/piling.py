@@ -12,9 +12,9 @@ from reference.pile import MOST_BILLS, piled
 
 HOST = kit.ROOT / 'tests' / 'host' / 'piling.c'
 
-# As in piling.c.
+# As in pile_record.h.
 MARK, MOST_PLACES, MOST_ROOM = b'\xAA', 1010, 1010
-HEAD = struct.Struct('<4I')
+HEAD = struct.Struct('<5I')
 SIZE = 4 + 2 * MOST_ROOM
 LARGEST = 2**32 - 1
 
@@ -29,9 +29,9 @@ class Pile(NamedTuple):
     count: int
     room: int
 
-    def packed(self):
-        """As piling.c reads it."""
-        head = HEAD.pack(len(self.buffer), len(self.places), self.count, self.room)
+    def packed(self, sums=0):
+        """As a host reads it, with how many sums are lent."""
+        head = HEAD.pack(len(self.buffer), len(self.places), self.count, self.room, sums)
         return head + struct.pack(f'<{len(self.places)}I', *self.places) + self.buffer
 
 
@@ -71,10 +71,10 @@ def piles():
     yield Pile(GOOD, [number for _ in range(10) for number in (0, len(GOOD))], 10, 30)
 
 
-def random_piles(seed, count):
+def random_piles(seed, count, bills=None):
     """Piles of up to 12 bills by chance, that overlap, lie in any order and are damaged; one in four
     has a number changed, less room, or fewer places."""
-    dice, bills = Dice(seed), list(damaged(seed, 400)) + SOME
+    dice, bills = Dice(seed), bills or list(damaged(seed, 400)) + SOME
     for _ in range(count):
         pile = laid_out([dice.pick(bills) for _ in range(dice.below(13))], MOST_ROOM)
         order = list(range(pile.count)) + [dice.below(pile.count or 1) for _ in range(2)]
@@ -95,16 +95,25 @@ def expected(pile):
     """What the host should write."""
     answer = piled(*pile)
     number, entries = (0, answer) if isinstance(answer, list) else (1000 * answer[0] + answer[1], [])
-    before = 2 * (MOST_ROOM - pile.room) * MARK
-    filled = struct.pack(f'<{len(entries)}H', *entries).ljust(2 * pile.room, MARK)
-    return struct.pack('<I', number) + before + filled
+    return struct.pack('<I', number) + listed(entries, pile.room)
+
+
+def listed(entries, room):
+    """All numbers that are lent for a list, with those in front of them, where entries fill its front."""
+    before = 2 * (MOST_ROOM - room) * MARK
+    return before + struct.pack(f'<{len(entries)}H', *entries).ljust(2 * room, MARK)
+
+
+def written(program, records, size):
+    """What a host writes for each record; nothing for those that it does not come to."""
+    ran = subprocess.run(kit.command(program), input=b''.join(records), stdout=subprocess.PIPE,
+                         check=False, env=kit.environment())
+    return [ran.stdout[start:start + size] for start in range(0, size * len(records), size)]
 
 
 def results(program, some):
-    """What the host writes for each; nothing for those that it does not come to."""
-    ran = subprocess.run(kit.command(program), input=b''.join(pile.packed() for pile in some),
-                         stdout=subprocess.PIPE, check=False, env=kit.environment())
-    return [ran.stdout[start:start + SIZE] for start in range(0, SIZE * len(some), SIZE)]
+    """What the host writes for each."""
+    return written(program, [pile.packed() for pile in some], SIZE)
 
 
 def built_piler(library: Path, folder: Path) -> Path:

@@ -12,6 +12,7 @@
                                     and make_iban(COUNTRY, IID, ACCOUNT, ROOM)
     pile(PAYLOAD, .., NUMBERS)      a pile of bills, lent a list of so many numbers; in the place of a
                                     payload, `outside` is one that begins past the buffer
+    season(PAYLOAD, .., NUMBERS)    a pile of bills tried under both editions, lent a list of so many numbers
     fields(PAYLOAD, ROOM)           SWIFT fields in so many bytes: their length, the lines of each, how many
                                     characters were cut and how many replaced
     mend(PAYLOAD, ROOM)             a payload mended in so many bytes: their length, breaks that were not LF,
@@ -25,8 +26,9 @@
 `read_22` and `fields_22` are of edition 2.2, all others of 2.4. `giro_read` and `giro_write` are the
 girocode's, `.._by_table` are remainders by the table. The calls
 for C are asked by their own names: `qrbill_places` and `girocode_places` as `read`, `qrbill_read` and
-`girocode_read` with a payload alone, `qrbill_line` and `girocode_line` with a line's number, and
-`qrbill_swift` as `fields` and `qrbill_mend` as `mend`, with how many numbers are lent for the counts.
+`girocode_read` with a payload alone, `qrbill_line` and `girocode_line` with a line's number,
+`qrbill_swift` as `fields` and `qrbill_mend` as `mend`, with how many numbers are lent for the counts,
+and `qrbill_season` as `season`, with how many are lent for the sums.
 
 A payload is `case NAME`, or `case NAME with N: TEXT`, where line N is another; every text is written as
 in case files (tests/casefile.py), and so is an answer. It has the lent memory: 7777 and `_` stand where
@@ -48,6 +50,7 @@ from reference.glance import glance
 from reference.numbers import made
 from reference.pile import piled
 from reference.mender import Mended, mended
+from reference.season import Season, tried
 from reference.swift import Fields, fields
 from reference.scanner import handed
 
@@ -230,14 +233,20 @@ def making(which, kind, told, *words):
     return asked(which, [room], parts, right)
 
 
-def piling(which, for_c, *words):
-    """A pile of bills, end to end in the buffer."""
-    *bills, room = words
-    texts, room = [b'' if bill == 'outside' else text_of(bill) for bill in bills], int(room)
+def end_to_end(bills):
+    """A buffer in which bills lie end to end, and their places."""
+    texts = [b'' if bill == 'outside' else text_of(bill) for bill in bills]
     buffer, places = b''.join(texts), []
     for i, bill in enumerate(bills):
         start = len(buffer) + 1 if bill == 'outside' else len(b''.join(texts[:i]))
         places += [start, len(texts[i])]
+    return buffer, places
+
+
+def piling(which, for_c, *words):
+    """A pile of bills."""
+    *bills, room = words
+    (buffer, places), room = end_to_end(bills), int(room)
     entries = piled(buffer, places, len(bills), room)
     refused = isinstance(entries, tuple)
     right = packed(qrbill, qrbill.Refused(*entries)) if refused else b'0'
@@ -245,6 +254,26 @@ def piling(which, for_c, *words):
         right = spoken(qrbill, qrbill.Refused(*entries)) if refused else b'done'
     return asked(which, [len(bills), room], [buffer, struct.pack(f'<{len(places)}I', *places)],
                  right + shown_list([] if refused else entries, room))
+
+
+def trying(which, for_c, *words):
+    """A pile of bills under both editions; for C the last word is how many sums are lent."""
+    *bills, room, lent = words if for_c else (*words, '2')
+    (buffer, places), room, lent = end_to_end(bills), int(room), int(lent)
+    answer = tried(buffer, places, len(bills), room, lent)
+    listed = isinstance(answer, Season)
+    positions, sums = answer if listed else ([], [])
+    if for_c:
+        told = b'%d' % len(positions) if listed else packed(qrbill, qrbill.Refused(*answer))
+    elif listed:
+        told = b'%d listed, CHF %d, EUR %d' % (len(positions), *sums)
+    else:
+        told = spoken(qrbill, qrbill.Refused(*answer))
+    right = told + shown_list(positions, room)
+    if for_c:
+        right += shown_list(sums, lent).replace(b'list', b'sums')
+    return asked(which, [len(bills), room, lent], [buffer, struct.pack(f'<{len(places)}I', *places)],
+                 right)
 
 
 def swift_told(payload, room, *numbers, **edition):
@@ -331,6 +360,7 @@ ASKERS = {
     'make_iban': partial(making, b'i', 'iban', spoken),
     'qrbill_make_iban': partial(making, b'I', 'iban', packed),
     'pile': partial(piling, b'p', False), 'qrbill_pile': partial(piling, b'P', True),
+    'season': partial(trying, b't', False), 'qrbill_season': partial(trying, b'T', True),
     'fields': partial(counted, b'f', swift_told),
     'fields_22': partial(counted, b'e', partial(swift_told, edition='2.2')),
     'qrbill_swift': partial(counted, b'F', swift_told),

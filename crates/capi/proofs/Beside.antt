@@ -1,32 +1,24 @@
 -- A call that tells numbers beside its answer lends the front of its destination, and none of it where the list is too short: what comes of that is what has to be told. Assumes nothing.
 use Prim.Native.Nat.{ℕ, _-_, _≤_, _<_}
-use native.Mathlib.Nat.{sub-zero}
 use native.Mathlib.Omega.{arith}
-use mathlib.Core.List.{List, [], _++_, append-nil}
+use mathlib.Core.List.{List}
 use mathlib.Core.Logic.{_≢_}
 use mathlib.Core.Option.{Option, some, none}
 use mathlib.Core.Path.{_≡_, ap, _∙_}
-use lib.ListN.{length, take, drop, drop-of-length-le}
-use lib.Seq.{take-all}
-use borrow.Rule.Slice.PartMut.{midOf, putMid, mid-len, put-same}
+use lib.ListN.{length}
+use borrow.Rule.Slice.PartMut.{putMid, put-same}
 use Rattle.runs.specs.Laid.{overFitting}
 use Rattle.runs.proofs.Lays.{laid-in}
 use Rattle.sieve.specs.Bytes.{Bytes, over}
 use Rattle.sieve.specs.Verdict.{Refusal}
 use Rattle.packing.specs.Packing.{packedRefusal}
 use Rattle.packing.specs.Telling.{IsTold, toldOnto, roomBeside}
-use Rattle.packing.proofs.Telling.{no-more-room, enough-numbers}
+use Rattle.packing.proofs.Telling.{enough-numbers, lentOn, lent-length, laid-back}
 
 -- the room that is lent on, of a destination and of a list for so many numbers
 module _ (dest : Bytes) (list : List ℕ) (count room : ℕ) (is-room : room ≡ roomBeside (length dest) (length list) count) where
   abbrev part : Bytes
-  part = midOf 0 (room - 0) dest
-
-  within : room ≤ length dest
-  within = rw is-room (no-more-room (length dest) (length list) count)
-
-  pub size-part : length part ≡ room
-  size-part = mid-len 0 room dest within ∙ sub-zero room
+  part = lentOn dest (length list) count room is-room
 
   -- what is to be laid and told
   module _ (bytes : Bytes) (numbers : List ℕ) where
@@ -40,17 +32,10 @@ module _ (dest : Bytes) (list : List ℕ) (count room : ℕ) (is-room : room ≡
         → length bytes ≤ length part → after ≡ over part bytes → n ≡ length bytes → l ≡ overFitting list numbers
         → IsTold (toldOnto bytes numbers dest list o) n (putMid 0 (room - 0) dest after) l
     all-told {after = after} found counted some-bytes fits laid e filled =
-        let some-room : roomBeside (length dest) (length list) count ≢ 0 = λ z. omega (arith, fits, size-part, is-room, z, some-bytes) in
+        let some-room : roomBeside (length dest) (length list) count ≢ 0 = λ z. omega (arith, fits, lent-length dest (length list) count room is-room, is-room, z, some-bytes) in
         let (enough, whole) = enough-numbers (length dest) (length list) count some-room in
         record {
           number = rw found e;
-          lent = rw found (front (is-room ∙ whole) laid);
+          lent = rw found (laid-back dest (length list) count room is-room (is-room ∙ whole) bytes laid);
           told = rw found (filled ∙ laid-in list numbers (omega (arith, enough, counted)));
         }
-      where
-        front : room ≡ length dest → after ≡ over part bytes → putMid 0 (room - 0) dest after ≡ over dest bytes
-        front w k =
-            let all-of-it : room - 0 ≡ length dest = sub-zero room ∙ w in
-            let none-behind : drop (room - 0) dest ≡ [] = rw all-of-it (drop-of-length-le dest {i = length dest} (omega arith)) in
-            let whole-part : take (room - 0) dest ≡ dest = rw all-of-it (take-all (length dest) dest (omega arith)) in
-            ap (λ (t : Bytes). after ++ t) none-behind ∙ append-nil after ∙ k ∙ ap (λ (d : Bytes). over d bytes) whole-part

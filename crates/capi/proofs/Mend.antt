@@ -21,13 +21,13 @@ use Rattle.swiss.specs.Swiss.{swiss}
 use Rattle.swiss.proofs.Numbers.{small-findings}
 use Rattle.packing.specs.Packing.{packedRefusal}
 use Rattle.packing.specs.Telling.{roomBeside}
-use Rattle.packing.proofs.Telling.{beside}
+use Rattle.packing.proofs.Telling.{beside, lent-length}
 use Rattle.mender.specs.declared.Repairs.{Repairs}
 use Rattle.mender.specs.declared.Mended.the-variants.{Length, Refused}
 use Rattle.mender.specs.Mending.{mostMended, mend, mendFindings, IsMended}
 use Rattle.mender.proofs.Promise.{refusal-changes-nothing, written-so}
 use Rattle.capi.specs.Calls.{toldRepairs, mendTold, IsPackedMended}
-use Rattle.capi.proofs.Beside.{size-part, nothing-told, all-told}
+use Rattle.capi.proofs.Beside.{nothing-told, all-told}
 use Rattle.capi.proofs.Swift.{Low, none-of-none}
 
 -- what is refused names a line below 1000
@@ -59,7 +59,7 @@ module _ (p dest : Bytes) (list : List ℕ) (room : ℕ) (is-room : room ≡ roo
   unfolding mendFindings findings first
   found-alike [] = refl
   found-alike (x ∷ s) =
-      ap (λ (n : ℕ). first (mendFindings p (x ∷ s) n)) (size-part dest list 3 room is-room ∙ is-room)
+      ap (λ (n : ℕ). first (mendFindings p (x ∷ s) n)) (lent-length dest (length list) 3 room is-room ∙ is-room)
       ∙ beside (found (ltb mostMended (length p)) (under 2 0) ∷ first (findings swiss (x ∷ s)) ∷ []) (length (x ∷ s)) (length dest) (length list) 3 (omega arith)
 
   pub refused-told : {f : Fault} {after : Bytes} {n : ℕ} → IsMended p part (Refused f) after → n ≡ packedRefusal (paperFault f) → IsPackedMended p dest list n (putMid 0 (room - 0) dest after) list

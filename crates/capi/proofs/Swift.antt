@@ -22,7 +22,7 @@ use Rattle.swiss.specs.Swiss.{swiss}
 use Rattle.swiss.proofs.Numbers.{small-findings}
 use Rattle.packing.specs.Packing.{packedRefusal}
 use Rattle.packing.specs.Telling.{roomBeside}
-use Rattle.packing.proofs.Telling.{beside}
+use Rattle.packing.proofs.Telling.{beside, lent-length}
 use Rattle.swift.specs.declared.Counts.{Counts}
 use Rattle.swift.specs.declared.Mapped.the-variants.{Laid, Refused}
 use Rattle.swift.specs.Fields.{contents, countsOf}
@@ -33,7 +33,7 @@ use Rattle.swift.proofs.Making.{some-content}
 use Rattle.swift.proofs.Promise.{refusal-changes-nothing, laid-in-front, laid-found-nothing, refused-found}
 use Rattle.swift.proofs.Small.{small-counts}
 use Rattle.capi.specs.Calls.{toldCounts, swiftAnswer, IsPackedFields}
-use Rattle.capi.proofs.Beside.{size-part, nothing-told, all-told}
+use Rattle.capi.proofs.Beside.{nothing-told, all-told}
 
 -- what is refused names a line below 1000
 
@@ -75,7 +75,7 @@ module _ (p dest : Bytes) (list : List ℕ) (room : ℕ) (is-room : room ≡ roo
   found-alike : first (fieldFindings swiss p (length part)) ≡ first (fieldFindings swiss p (length dest) ++ (noRoom (length list) 5 ∷ []))
   unfolding fieldFindings
   found-alike =
-      ap (λ (n : ℕ). first (fieldFindings swiss p n)) (size-part dest list 5 room is-room ∙ is-room)
+      ap (λ (n : ℕ). first (fieldFindings swiss p n)) (lent-length dest (length list) 5 room is-room ∙ is-room)
       ∙ beside (first (findings swiss p) ∷ noAmount ls ∷ []) (length (contents ls)) (length dest) (length list) 5 (some-content ls)
 
   pub refused-told : {f : Fault} {after : Bytes} {n : ℕ} → IsMapped swiss p part (Refused f) after → n ≡ packedRefusal (paperFault f) → IsPackedFields swiss p dest list n (putMid 0 (room - 0) dest after) list

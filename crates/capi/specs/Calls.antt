@@ -1,4 +1,4 @@
--- What the calls for C answer of the account, of a number that is made, of a pile, of SWIFT fields, and of a payload that is mended. Assumes nothing.
+-- What the calls for C answer of the account, of a number that is made, of a pile, of a season, of SWIFT fields, and of a payload that is mended. Assumes nothing.
 use Prim.Native.Nat.{ℕ}
 use mathlib.Core.Bool.{Bool}
 use mathlib.Core.List.{List, [], _∷_, _++_}
@@ -10,7 +10,9 @@ use Rattle.sieve.specs.Lines.{cut, linesOf}
 use Rattle.sieve.specs.Reading.{noRoom}
 use Rattle.sieve.specs.Rules.{Layout}
 use Rattle.sieve.specs.Verdict.{Refusal, first}
+use Rattle.sieve.specs.Writing.{handed}
 use Rattle.swiss.specs.declared.Edition.the-variants.{V24}
+use Rattle.swiss.specs.Limits.{francs, euros}
 use Rattle.glance.specs.declared.Account.{Account}
 use Rattle.glance.specs.declared.Account.the-variants.{Unknown, At}
 use Rattle.packing.specs.Packing.{packedRefusal, packedPlace, packedLaying}
@@ -19,6 +21,7 @@ use Rattle.packing.specs.Telling.{Told, IsTold, toldOnto}
 use Rattle.pile.specs.Pile.{entries, pileFindings, filledBy}
 use Rattle.mender.specs.declared.Repairs.{Repairs}
 use Rattle.mender.specs.Mending.{mend, mendFindings}
+use Rattle.season.specs.Season.{differing, sum, seasonFindings}
 use Rattle.swift.specs.declared.Counts.{Counts}
 use Rattle.swift.specs.Fields.{contents, countsOf}
 use Rattle.swift.specs.Answering.{fieldFindings}
@@ -42,6 +45,22 @@ packedPile (some r) = packedRefusal r
 pub record IsPackedPiled (buffer : Bytes) (places : List ℕ) (count : ℕ) (answers : List ℕ) (r : ℕ) (after : List ℕ) : Type 0 where
   pub number : r ≡ packedPile (first (pileFindings buffer places count (length answers)))
   pub lent : after ≡ filledBy (entries V24 buffer places count) answers (first (pileFindings buffer places count (length answers)))
+
+-- the sums as numbers, of CHF and of EUR
+abbrev pub toldSums : List Bytes → List ℕ
+toldSums ps = sum francs ps ∷ sum euros ps ∷ []
+
+-- of a season: what is found of the bills and of room for their positions, and last of all room for the two sums
+unfoldable pub seasonAnswer : Bytes → List ℕ → ℕ → List ℕ → List ℕ → Told
+seasonAnswer buffer places count list sums =
+    let ps = handed buffer places count in
+    toldOnto (differing ps) (toldSums ps) list sums (first (seasonFindings buffer places count (length list) ++ (noRoom (length sums) 2 ∷ [])))
+
+-- the number r, the list and the sums afterwards
+pub record IsPackedTried (buffer : Bytes) (places : List ℕ) (count : ℕ) (list sums : List ℕ) (r : ℕ) (after told : List ℕ) : Type 0 where
+  pub number : r ≡ seasonAnswer buffer places count list sums .number
+  pub lent : after ≡ seasonAnswer buffer places count list sums .dest
+  pub summed : told ≡ seasonAnswer buffer places count list sums .list
 
 -- the counts as numbers: lines of 59a, of 32B and of 70, characters cut, characters replaced
 abbrev pub toldCounts : Counts → List ℕ

@@ -1,6 +1,6 @@
-// Calls for C, all of edition 2.4: the verdict on a payload and the place of a line as one number each, the list of places,
-// the account at a glance, the writer, numbers of our own, a pile of bills, SWIFT fields, a payload that comes in bits, and
-// one that is mended.
+// Calls for C, all of edition 2.4 but the season, which tries both: the verdict on a payload and the place of a line as
+// one number each, the list of places, the account at a glance, the writer, numbers of our own, a pile of bills, a
+// season, SWIFT fields, a payload that comes in bits, and one that is mended.
 use glance::Account;
 use glance::glance;
 use mender::Mended;
@@ -23,6 +23,9 @@ use pile::pile;
 use reader::read;
 use runs::fill;
 use scanner::hand_over;
+use season::Tried;
+use season::season;
+use sieve::Fault;
 use swift::Counts;
 use swift::Mapped;
 use swift::fields;
@@ -38,7 +41,7 @@ ghost use Rattle.packing.specs.Calls.{packedLine, IsPackedRead, IsPackedWritten
 ghost use Rattle.glance.specs.Glance.{glance, accountAs};
 ghost use Rattle.numbers.specs.Made.{qrrPart, madeQrr, scorPart, madeScor, ibanParts, madeIban};
 ghost use Rattle.capi.specs.Calls.{packedAccount, IsPackedMade, IsPackedPiled};
-ghost use Rattle.capi.specs.Calls.{toldCounts, IsPackedFields, toldRepairs, IsPackedMended};
+ghost use Rattle.capi.specs.Calls.{IsPackedTried, toldCounts, IsPackedFields, toldRepairs, IsPackedMended};
 ghost use Rattle.mender.specs.Promised.{AreFew};
 ghost use Rattle.swift.specs.Promised.{AreSmall};
 ghost use Rattle.scanner.specs.Scanning.{heldIn, handed};
@@ -151,6 +154,35 @@ pub extern "C" fn qrbill_pile(buffer: &[u8], places: &[u32], count: u32, answers
     match pile(buffer, places, count as usize, Edition::V24, answers) {
         Piled::Done => 0,
         Piled::Refused(fault) => packed_refusal(fault),
+    }
+}
+
+// How many positions a season lists in the front of the list, with the sums of CHF and of EUR in that of the other;
+// else 1000 times the refusal plus the position of a bill, and neither has changed. A season of no bills asks for no
+// room in the list.
+#[no_mangle]
+pub extern "C" fn qrbill_season(
+    buffer: &[u8],
+    places: &[u32],
+    count: u32,
+    list: &mut [u16],
+    sums: &mut [u64],
+) -> u32
+    ensures { λ r.
+        ⌜ IsPackedTried (now (buffer .entry)) (now (places .entry)) count (now (list .entry)) (now (sums .entry)) r
+        (now (list .exit)) (now (sums .exit)) ⌝ }
+{
+    let room = room_beside(list.len(), sums.len(), 2);
+    match season(buffer, places, count as usize, &mut list[0..room]) {
+        Tried::Refused(fault) => packed_refusal(fault),
+        Tried::Listed(n, francs, euros) => {
+            if sums.len() < 2 {
+                return packed_refusal(Fault::NoRoom);
+            }
+            sums[0] = francs;
+            sums[1] = euros;
+            n as u32
+        }
     }
 }
 

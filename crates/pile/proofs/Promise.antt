@@ -2,6 +2,7 @@
 use Prim.Native.Nat.{ℕ, _*_, _≤_, _<_}
 use native.Mathlib.Omega.{arith}
 use mathlib.Core.List.{List, append-assoc}
+use mathlib.Core.Option.{Option·getD}
 use mathlib.Core.Path.{_≡_, refl, sym, ap, _∙_}
 use lib.ListN.{length, take, drop}
 use lib.Seq.{take-at, drop-at, drop-append-le}
@@ -20,10 +21,10 @@ use Rattle.pile.specs.declared.Piled.{Piled}
 use Rattle.pile.specs.declared.Piled.the-variants.{Done, Refused}
 use Rattle.pile.specs.Pile.{entry, entriesOf, entries, paperPiled, IsPiled}
 use Rattle.pile.proofs.Entries.{entry-length, entries-length, entry-next}
-use Rattle.pile.proofs.Stages.{is-done}
+use Rattle.pile.proofs.Stages.{all-placed, is-done}
 
 -- two answers that say the same in the paper's words are equal
-one-piled : (q r : Piled) → paperPiled q ≡ paperPiled r → q ≡ r
+pub one-piled : (q r : Piled) → paperPiled q ≡ paperPiled r → q ≡ r
 one-piled Done Done e = refl
 one-piled Done (Refused g) e = let z : _≡_ {A = ℕ} 0 1 = cc in absurd (omega arith)
 one-piled (Refused f) Done e = let z : _≡_ {A = ℕ} 0 1 = cc in absurd (omega arith)
@@ -68,4 +69,5 @@ neighbours-stay {ed = ed} h k j few same = own-entry h j few ∙ ap (λ (l : Byt
 pub no-bills : (ed : Edition) (buffer : Bytes) (places answers : List ℕ) → IsPiled ed buffer places 0 answers Done answers
 unfolding entriesOf handed spans
 no-bills ed buffer places answers =
-    is-done buffer places 0 answers ed (omega arith) (omega arith) (outside-first buffer places 0 ∙ outside-none buffer places 0 0 (omega arith)) (omega arith) refl
+    let inside = outside-first buffer places 0 ∙ outside-none buffer places 0 0 (omega arith) in
+    is-done buffer places 0 answers ed (all-placed buffer places 0 (omega arith) (omega arith) refl (ap (λ o. Option·getD o 0) inside)) (omega arith) refl

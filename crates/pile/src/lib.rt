@@ -10,13 +10,13 @@ ghost use Prim.Native.Nat.{_*_, _≤_};
 ghost use lib.ListN.{length};
 ghost use Rattle.sieve.specs.Bytes.{over};
 ghost use Rattle.sieve.specs.Paper.{paper};
-ghost use Rattle.sieve.specs.Verdict.{verdict};
+ghost use Rattle.sieve.specs.Verdict.{first, verdict};
 ghost use Rattle.swiss.specs.Swiss.{swissIn};
-ghost use Rattle.pile.specs.Pile.{outsideAt, entry, Small, entries, Fillable, IsPiled};
+ghost use Rattle.pile.specs.Pile.{outsideAt, placeFindings, paperPiled, entry, Small, entries, Fillable, IsPiled};
 
 const MOST_BILLS: usize = 500;
 
-// What is answered of a pile: each bill has its entry, or none has.
+// What is answered of a pile: nothing is refused, or what is.
 pub enum Piled {
     Done,
     Refused(Fault),
@@ -37,6 +37,23 @@ fn first_outside(buffer: &[u8], places: &[u32], count: usize) -> usize
         i += 1;
     }
     0
+}
+
+// Asks for the count of a pile and for its places: each bill lies in the buffer.
+pub fn gather_bills(buffer: &[u8], places: &[u32], count: usize) -> Piled
+    ensures { λ r. ⌜ paperPiled r ≡ first (placeFindings (now (buffer .entry)) (now (places .entry)) count) ⌝ }
+{
+    if MOST_BILLS < count {
+        return Piled::Refused(Fault::LineCount(0));
+    }
+    if places.len() < 2 * count {
+        return Piled::Refused(Fault::LineCount(0));
+    }
+    let outside = first_outside(buffer, places, count);
+    if outside != 0 {
+        return Piled::Refused(Fault::OutsideText(outside));
+    }
+    Piled::Done
 }
 
 // Puts a bill's answer into its own part of the list.
@@ -97,19 +114,14 @@ pub fn pile(
     ensures { λ r.
         ⌜ IsPiled edition (now (buffer .entry)) (now (places .entry)) count (now (answers .entry)) r (now (answers .exit)) ⌝ }
 {
-    if MOST_BILLS < count {
-        return Piled::Refused(Fault::LineCount(0));
+    match gather_bills(buffer, places, count) {
+        Piled::Refused(fault) => Piled::Refused(fault),
+        Piled::Done => {
+            if answers.len() < 2 * count {
+                return Piled::Refused(Fault::NoRoom);
+            }
+            judge_all(buffer, places, count, edition, answers);
+            Piled::Done
+        }
     }
-    if places.len() < 2 * count {
-        return Piled::Refused(Fault::LineCount(0));
-    }
-    let outside = first_outside(buffer, places, count);
-    if outside != 0 {
-        return Piled::Refused(Fault::OutsideText(outside));
-    }
-    if answers.len() < 2 * count {
-        return Piled::Refused(Fault::NoRoom);
-    }
-    judge_all(buffer, places, count, edition, answers);
-    Piled::Done
 }

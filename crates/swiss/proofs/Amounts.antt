@@ -6,7 +6,7 @@ use mathlib.Core.Bool.{Bool, true, false, _&&_, not, true≢false, and-eq-true-i
 use mathlib.Core.List.{[], _∷_, _++_}
 use mathlib.Core.Path.{_≡_, refl, sym, _∙_, ap}
 use lib.Dec.{eqb, leb, lit≤}
-use lib.ListN.{length, getD, take, drop, length-append, take-append-drop, drop-of-length-le}
+use lib.ListN.{length, getD, take, drop, length-append, length-drop, take-append-drop, drop-of-length-le}
 use lib.Seq.{length-take-le, drop-cons, take-at, getD-at, drop-append-add}
 use borrow.Author.Tests.{leb-true, eqb-true, not-true, le-leb, lt-leb}
 use Rattle.sieve.specs.Bytes.{Bytes, ascii, same, every}
@@ -164,6 +164,45 @@ amount-in-cents s h b =
     let some = some-cents s h in
     let most : cents s ≤ 99999999999 = rw (a .is) (cents-most (a .parts) (rw (a .is) at b)) in
     (omega arith, most)
+
+-- so the amount of a line 19: digits of francs, a point, and two digits of cents
+
+-- two digits behind a number
+two-behind : (n : ℕ) (t : Bytes) → length t ≡ 2 → every digit t ≡ true → number n t ≡ 100 * n + number 0 t
+unfolding number
+two-behind n [] h k = absurd (omega arith)
+two-behind n (c ∷ []) h k = absurd (omega arith)
+two-behind n (c ∷ d ∷ []) h k =
+    let (hc, rest) = and-eq-true-iff (digit c) (digit d && true) .0 k in
+    let (hd, _) = and-eq-true-iff (digit d) true .0 rest in
+    omega (arith, digit-onto n c hc, digit-onto 0 c hc, digit-onto (onto n c) d hd, digit-onto (onto 0 c) d hd)
+two-behind n (c ∷ d ∷ e ∷ t) h k = absurd (omega arith)
+
+pub record Due (s : Bytes) : Type 0 where
+  pub long : 4 ≤ length s
+  pub short : length s ≤ amountMost
+  pub whole : every digit (take (length s - 3) s) ≡ true
+  pub behind : every digit (drop (length s - 2) s) ≡ true
+  pub value : cents s ≡ 100 * number 0 (take (length s - 3) s) + number 0 (drop (length s - 2) s)
+  pub most : cents s ≤ 99999999999
+
+pub amount-due : (s : Bytes) → amount s ≡ true → characters s ≤ amountMost → Due s
+unfolding cents
+amount-due s h b =
+    let a = amount-parts s h in
+    let w = take (length s - 3) s in
+    let t = drop (length s - 2) s in
+    let k = six (leb 4 (length s)) (every digit w) (eqb (getD s (length s - 3) 0) 46) (every digit t) (unled w) (not (same s (ascii "0.00"))) h in
+    let long = leb-true 4 (length s) (k .0) in
+    let two : length t ≡ 2 = omega (arith, length-drop (length s - 2) s) in
+    record {
+      long = long;
+      short = omega (arith, ap length (a .is), ap characters (a .is), laid-length (a .w) (a .c) (a .d), laid-characters (a .parts));
+      whole = k .1;
+      behind = k .3;
+      value = number-after 0 w t ∙ two-behind (number 0 w) t two (k .3);
+      most = amount-in-cents s h b .1;
+    }
 
 -- each number in this range has an amount
 

@@ -1,6 +1,7 @@
 -- `capi::qrbill_swift` meets its contract: what is answered packs. Assumes nothing.
 use native.Mathlib.Omega.{arith}
 use mathlib.Core.Path.{refl, ap, _∙_}
+use lib.ListN.{length}
 use borrow.Author.Needs.{needs}
 use Rattle.swiss.specs.Swiss.{swiss}
 use Rattle.runs.specs.Laid.{overFitting}
