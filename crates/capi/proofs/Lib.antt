@@ -1,9 +1,7 @@
-pub mod Packs
 pub mod Made
 pub mod Piled
 pub mod Season
 pub mod Read
-pub mod Beside
 pub mod Swift
 pub mod Mend
 pub mod Handed

@@ -15,10 +15,9 @@ use Rattle.sieve.specs.Paper.{paperFault}
 use Rattle.sieve.specs.Reading.{noRoom}
 use Rattle.sieve.specs.Verdict.{under, found, findings, first}
 use Rattle.sieve.proofs.Findings.{each-none, found-none}
-use Rattle.sieve.proofs.Numbers.{Each, each-first, each-found}
-use Rattle.swiss.specs.declared.Edition.the-variants.{V24}
+use Rattle.sieve.proofs.Numbers.{Each, each-first, each-found, small-findings}
 use Rattle.swiss.specs.Swiss.{swiss}
-use Rattle.swiss.proofs.Numbers.{small-findings}
+use Rattle.swiss.proofs.Serves.{swiss-serves}
 use Rattle.packing.specs.Packing.{packedRefusal}
 use Rattle.packing.specs.Telling.{roomBeside}
 use Rattle.packing.proofs.Telling.{beside, lent-length}
@@ -27,7 +26,7 @@ use Rattle.mender.specs.declared.Mended.the-variants.{Length, Refused}
 use Rattle.mender.specs.Mending.{mostMended, mend, mendFindings, IsMended}
 use Rattle.mender.proofs.Promise.{refusal-changes-nothing, written-so}
 use Rattle.capi.specs.Calls.{toldRepairs, mendTold, IsPackedMended}
-use Rattle.capi.proofs.Beside.{nothing-told, all-told}
+use Rattle.packing.proofs.Beside.{nothing-told, all-told}
 use Rattle.capi.proofs.Swift.{Low, none-of-none}
 
 -- what is refused names a line below 1000
@@ -38,7 +37,7 @@ low-findings p bytes room =
     let reader = first (findings swiss bytes) in
     let last = noRoom room (length bytes) in
     each-first {P = Low} (found (ltb mostMended (length p)) (under 2 0)) (reader ∷ last ∷ []) (each-found Low (ltb mostMended (length p)) (under 2 0) (lit≤ tt))
-    (each-first {P = Low} reader (last ∷ []) (λ r e. small-findings V24 bytes r e .line)
+    (each-first {P = Low} reader (last ∷ []) (λ r e. small-findings swiss-serves bytes r e .line)
     (each-first {P = Low} last [] (each-found Low (ltb room (length bytes)) (under 15 0) (lit≤ tt)) none-of-none))
 
 pub low-line : {p dest : Bytes} {f : Fault} {after : Bytes} → IsMended p dest (Refused f) after → paperFault f .line < 1000

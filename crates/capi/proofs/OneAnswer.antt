@@ -36,7 +36,7 @@ one-qrbill-pile κs a x y v w h k = (h .number ∙ sym (k .number), ap (λ d. (t
 
 -- the list and the sums at exit too
 pub one-qrbill-season : OneAnswer fn.qrbill_season.ended fn.qrbill_season.Reads.Learnt
-one-qrbill-season κs a x y v w h k = (h .number ∙ sym (k .number), ap₂ (λ d l. (tt, (tt, (tt, (d, (l, tt)))))) (h .lent ∙ sym (k .lent)) (h .summed ∙ sym (k .summed)))
+one-qrbill-season κs a x y v w h k = (h .number ∙ sym (k .number), ap₂ (λ d l. (tt, (tt, (tt, (d, (l, tt)))))) (h .lent ∙ sym (k .lent)) (h .told ∙ sym (k .told)))
 
 -- the destination and the list at exit too
 pub one-qrbill-swift : OneAnswer fn.qrbill_swift.ended fn.qrbill_swift.Reads.Learnt

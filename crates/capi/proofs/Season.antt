@@ -57,7 +57,7 @@ module _ (buffer : Bytes) (places : List ℕ) (count : ℕ) (list sums : List �
   unfolding seasonAnswer placeFindings
   refused-packed {f} h e =
       let found : all ≡ some (paperFault f) = beside-stops (placeFindings buffer places count) count (length list) (length sums) 2 (sym of-part ∙ refused-found h) in
-      record { number = rw found e; lent = rw found (stays (refusal-changes-nothing h)); summed = rw found }
+      record { number = rw found e; lent = rw found (stays (refusal-changes-nothing h)); told = rw found }
 
   module _ {n c e : ℕ} {after : List ℕ} (h : IsTried buffer places count part (Listed n c e) after) where
     nothing : partly ≡ none
@@ -71,7 +71,7 @@ module _ (buffer : Bytes) (places : List ℕ) (count : ℕ) (list sums : List �
         let no-room : room ≡ 0 = is-room ∙ rw (lt-ltb (length sums) 2 short) in
         let size = lent-length list (length sums) 2 room is-room in
         let none-listed : differing ps ≡ [] = no-numbers (differing ps) (omega (arith, gives h .positions-are, one-each-at-most h, in-room h, size, no-room)) in
-        record { number = rw found m; lent = rw found (stays (gives h .laid ∙ rw none-listed)); summed = rw found }
+        record { number = rw found m; lent = rw found (stays (gives h .laid ∙ rw none-listed)); told = rw found }
 
     pub listed-packed : {m : ℕ} → 2 ≤ length sums → m ≡ n → IsPackedTried buffer places count list sums m (putMid 0 (room - 0) list after) (set (set sums 0 c) 1 e)
     unfolding seasonAnswer placeFindings
@@ -82,5 +82,5 @@ module _ (buffer : Bytes) (places : List ℕ) (count : ℕ) (list sums : List �
         record {
           number = rw found (m ∙ is .positions-are);
           lent = rw found (laid-back list (length sums) 2 room is-room whole (differing ps) (is .laid));
-          summed = rw found (two-set sums c e enough ∙ rw (is .francs-are, is .euros-are));
+          told = rw found (two-set sums c e enough ∙ rw (is .francs-are, is .euros-are));
         }

@@ -16,10 +16,10 @@ use Rattle.sieve.specs.Reading.{noRoom}
 use Rattle.sieve.specs.Rules.{isEmpty}
 use Rattle.sieve.specs.Verdict.{Refusal, under, findings, first}
 use Rattle.sieve.proofs.Findings.{each-none, found-none}
-use Rattle.sieve.proofs.Numbers.{Each, Small, each-first, each-found}
+use Rattle.sieve.proofs.Numbers.{Each, each-first, each-found, small-findings}
 use Rattle.swiss.specs.declared.Edition.the-variants.{V24}
 use Rattle.swiss.specs.Swiss.{swiss}
-use Rattle.swiss.proofs.Numbers.{small-findings}
+use Rattle.swiss.proofs.Serves.{swiss-serves}
 use Rattle.packing.specs.Packing.{packedRefusal}
 use Rattle.packing.specs.Telling.{roomBeside}
 use Rattle.packing.proofs.Telling.{beside, lent-length}
@@ -33,7 +33,7 @@ use Rattle.swift.proofs.Making.{some-content}
 use Rattle.swift.proofs.Promise.{refusal-changes-nothing, laid-in-front, laid-found-nothing, refused-found}
 use Rattle.swift.proofs.Small.{small-counts}
 use Rattle.capi.specs.Calls.{toldCounts, swiftAnswer, IsPackedFields}
-use Rattle.capi.proofs.Beside.{nothing-told, all-told}
+use Rattle.packing.proofs.Beside.{nothing-told, all-told}
 
 -- what is refused names a line below 1000
 
@@ -49,7 +49,7 @@ unfolding fieldFindings swiss
 low-findings p room =
     let ls = linesOf (cut p) in
     let last = noRoom room (length (contents ls)) in
-    each-first {P = Low} (first (findings swiss p)) (noAmount ls ∷ last ∷ []) (λ r e. small-findings V24 p r e .line)
+    each-first {P = Low} (first (findings swiss p)) (noAmount ls ∷ last ∷ []) (λ r e. small-findings swiss-serves p r e .line)
     (each-first {P = Low} (noAmount ls) (last ∷ []) (each-found Low (isEmpty 19 ls) (under 16 19) (lit≤ tt))
     (each-first {P = Low} last [] (each-found Low (ltb room (length (contents ls))) (under 15 0) (lit≤ tt)) none-of-none))
 

@@ -5,6 +5,8 @@ use mathlib.Core.List.{List, [], _∷_, _++_}
 use mathlib.Core.Option.{Option, some, none}
 use mathlib.Core.Path.{_≡_}
 use lib.ListN.{length}
+use denote.Ref.{RefT, now}
+use denote.Triple.Both.{Both}
 use Rattle.sieve.specs.Bytes.{Bytes}
 use Rattle.sieve.specs.Lines.{cut, linesOf}
 use Rattle.sieve.specs.Reading.{noRoom}
@@ -16,9 +18,10 @@ use Rattle.swiss.specs.Limits.{francs, euros}
 use Rattle.glance.specs.declared.Account.{Account}
 use Rattle.glance.specs.declared.Account.the-variants.{Unknown, At}
 use Rattle.packing.specs.Packing.{packedRefusal, packedPlace, packedLaying}
+use Rattle.numbers.specs.Made.{qrrPart, madeQrr, scorPart, madeScor, ibanParts, madeIban}
 use Rattle.numbers.specs.Making.{makeAnswer}
 use Rattle.packing.specs.Telling.{Told, IsTold, toldOnto}
-use Rattle.pile.specs.Pile.{entries, pileFindings, filledBy}
+use Rattle.pile.specs.Pile.{pileNumbers, pileFindings, filledBy}
 use Rattle.mender.specs.declared.Repairs.{Repairs}
 use Rattle.mender.specs.Mending.{mend, mendFindings}
 use Rattle.season.specs.Season.{differing, sum, seasonFindings}
@@ -36,6 +39,21 @@ pub record IsPackedMade (formed : Bool) (made dest : Bytes) (r : ℕ) (after : B
   pub number : r ≡ packedLaying (makeAnswer formed made dest .answer)
   pub lent : after ≡ makeAnswer formed made dest .lent
 
+-- so of what a call is lent, at its entry and at its exit: a QR reference, a creditor reference, an IBAN
+
+abbrev pub IsPackedQrr : (digits dest : Both (RefT Bytes) (RefT Bytes)) → ℕ → Type 0
+IsPackedQrr digits dest r = let s = now (digits .entry) in IsPackedMade (qrrPart s) (madeQrr s) (now (dest .entry)) r (now (dest .exit))
+
+abbrev pub IsPackedScor : (reference dest : Both (RefT Bytes) (RefT Bytes)) → ℕ → Type 0
+IsPackedScor reference dest r = let s = now (reference .entry) in IsPackedMade (scorPart s) (madeScor s) (now (dest .entry)) r (now (dest .exit))
+
+abbrev pub IsPackedIban : (country iid account dest : Both (RefT Bytes) (RefT Bytes)) → ℕ → Type 0
+IsPackedIban country iid account dest r =
+    let c = now (country .entry) in
+    let i = now (iid .entry) in
+    let a = now (account .entry) in
+    IsPackedMade (ibanParts c i a) (madeIban c i a) (now (dest .entry)) r (now (dest .exit))
+
 -- of a pile: 0, or why it is refused
 abbrev pub packedPile : Option Refusal → ℕ
 packedPile none = 0
@@ -44,7 +62,11 @@ packedPile (some r) = packedRefusal r
 -- of a buffer, places, a count and a list for entries, the number r and the list afterwards
 pub record IsPackedPiled (buffer : Bytes) (places : List ℕ) (count : ℕ) (answers : List ℕ) (r : ℕ) (after : List ℕ) : Type 0 where
   pub number : r ≡ packedPile (first (pileFindings buffer places count (length answers)))
-  pub lent : after ≡ filledBy (entries V24 buffer places count) answers (first (pileFindings buffer places count (length answers)))
+  pub lent : after ≡ filledBy (pileNumbers V24 buffer places count) answers (first (pileFindings buffer places count (length answers)))
+
+-- so of what a call is lent
+abbrev pub IsPackedPiledTo : (buffer places : Both (RefT (List ℕ)) (RefT (List ℕ))) → ℕ → (answers : Both (RefT (List ℕ)) (RefT (List ℕ))) → ℕ → Type 0
+IsPackedPiledTo buffer places count answers r = IsPackedPiled (now (buffer .entry)) (now (places .entry)) count (now (answers .entry)) r (now (answers .exit))
 
 -- the sums as numbers, of CHF and of EUR
 abbrev pub toldSums : List Bytes → List ℕ
@@ -57,10 +79,13 @@ seasonAnswer buffer places count list sums =
     toldOnto (differing ps) (toldSums ps) list sums (first (seasonFindings buffer places count (length list) ++ (noRoom (length sums) 2 ∷ [])))
 
 -- the number r, the list and the sums afterwards
-pub record IsPackedTried (buffer : Bytes) (places : List ℕ) (count : ℕ) (list sums : List ℕ) (r : ℕ) (after told : List ℕ) : Type 0 where
-  pub number : r ≡ seasonAnswer buffer places count list sums .number
-  pub lent : after ≡ seasonAnswer buffer places count list sums .dest
-  pub summed : told ≡ seasonAnswer buffer places count list sums .list
+abbrev pub IsPackedTried : Bytes → List ℕ → ℕ → List ℕ → List ℕ → ℕ → List ℕ → List ℕ → Type 0
+IsPackedTried buffer places count list sums r after told = IsTold (seasonAnswer buffer places count list sums) r after told
+
+-- so of what a call is lent
+abbrev pub IsPackedTriedTo : (buffer places : Both (RefT (List ℕ)) (RefT (List ℕ))) → ℕ → (list sums : Both (RefT (List ℕ)) (RefT (List ℕ))) → ℕ → Type 0
+IsPackedTriedTo buffer places count list sums r =
+    IsPackedTried (now (buffer .entry)) (now (places .entry)) count (now (list .entry)) (now (sums .entry)) r (now (list .exit)) (now (sums .exit))
 
 -- the counts as numbers: lines of 59a, of 32B and of 70, characters cut, characters replaced
 abbrev pub toldCounts : Counts → List ℕ
@@ -76,6 +101,10 @@ swiftAnswer L p dest list =
 abbrev pub IsPackedFields : Layout → Bytes → Bytes → List ℕ → ℕ → Bytes → List ℕ → Type 0
 IsPackedFields L p dest list r after counts = IsTold (swiftAnswer L p dest list) r after counts
 
+-- so of what a call is lent
+abbrev pub IsPackedFieldsTo : Layout → (payload dest list : Both (RefT (List ℕ)) (RefT (List ℕ))) → ℕ → Type 0
+IsPackedFieldsTo L payload dest list r = IsPackedFields L (now (payload .entry)) (now (dest .entry)) (now (list .entry)) r (now (dest .exit)) (now (list .exit))
+
 -- what was counted as numbers: breaks that were not LF, spaces taken, lines dropped
 abbrev pub toldRepairs : Repairs → List ℕ
 toldRepairs c = c .breaks ∷ c .spaces ∷ c .lines ∷ []
@@ -88,3 +117,7 @@ mendTold p dest list =
 
 abbrev pub IsPackedMended : Bytes → Bytes → List ℕ → ℕ → Bytes → List ℕ → Type 0
 IsPackedMended p dest list r after counts = IsTold (mendTold p dest list) r after counts
+
+-- so of what a call is lent
+abbrev pub IsPackedMendedTo : (payload dest list : Both (RefT (List ℕ)) (RefT (List ℕ))) → ℕ → Type 0
+IsPackedMendedTo payload dest list r = IsPackedMended (now (payload .entry)) (now (dest .entry)) (now (list .entry)) r (now (dest .exit)) (now (list .exit))

@@ -26,6 +26,7 @@ use scanner::hand_over;
 use season::Tried;
 use season::season;
 use sieve::Fault;
+use sieve::WALK_NUMBERS;
 use swift::Counts;
 use swift::Mapped;
 use swift::fields;
@@ -36,12 +37,11 @@ use writer::write;
 ghost use mathlib.Core.Path.{_≡_};
 ghost use Rattle.sieve.specs.Verdict.{verdict};
 ghost use Rattle.swiss.specs.Swiss.{swiss};
-ghost use Rattle.packing.specs.Packing.{packed, breakFor};
-ghost use Rattle.packing.specs.Calls.{packedLine, IsPackedRead, IsPackedWritten};
+ghost use Rattle.packing.specs.Packing.{packed};
+ghost use Rattle.packing.specs.Calls.{packedLine, IsPackedRead, IsPackedWrittenTo};
 ghost use Rattle.glance.specs.Glance.{glance, accountAs};
-ghost use Rattle.numbers.specs.Made.{qrrPart, madeQrr, scorPart, madeScor, ibanParts, madeIban};
-ghost use Rattle.capi.specs.Calls.{packedAccount, IsPackedMade, IsPackedPiled};
-ghost use Rattle.capi.specs.Calls.{IsPackedTried, toldCounts, IsPackedFields, toldRepairs, IsPackedMended};
+ghost use Rattle.capi.specs.Calls.{packedAccount, IsPackedQrr, IsPackedScor, IsPackedIban, IsPackedPiledTo};
+ghost use Rattle.capi.specs.Calls.{IsPackedTriedTo, toldCounts, IsPackedFieldsTo, toldRepairs, IsPackedMendedTo};
 ghost use Rattle.mender.specs.Promised.{AreFew};
 ghost use Rattle.swift.specs.Promised.{AreSmall};
 ghost use Rattle.scanner.specs.Scanning.{heldIn, handed};
@@ -60,7 +60,7 @@ pub extern "C" fn qrbill_read(payload: &[u8]) -> u32
 pub extern "C" fn qrbill_line(payload: &[u8], line: u32) -> u32
     ensures { λ r. ⌜ r ≡ packedLine swiss (now (payload .entry)) line (verdict swiss (now (payload .entry))) ⌝ }
 {
-    let mut places = [0; 68];
+    let mut places = [0; WALK_NUMBERS];
     let answer = judge(payload, &mut places);
     packed_line(answer, &places, line, Edition::MOST_LINES)
 }
@@ -94,9 +94,7 @@ pub extern "C" fn qrbill_write(
     crlf: bool,
     dest: &mut [u8],
 ) -> u32
-    ensures { λ r.
-        ⌜ IsPackedWritten swiss (now (text .entry)) (now (list .entry)) count (breakFor crlf) (now (dest .entry)) r
-        (now (dest .exit)) ⌝ }
+    ensures { λ r. ⌜ IsPackedWrittenTo swiss text list count crlf dest r ⌝ }
 {
     packed_laying(write(
         text,
@@ -109,27 +107,24 @@ pub extern "C" fn qrbill_write(
 }
 
 // The length of a QR reference made of 26 digits, which lies in the destination's front; else 10000 or 15000, and the
-// destination is as it was. So it is with the two calls below.
+// destination is as it was.
 #[no_mangle]
 pub extern "C" fn qrbill_make_qrr(digits: &[u8], dest: &mut [u8]) -> u32
-    ensures { λ r.
-        ⌜ IsPackedMade (qrrPart (now (digits .entry))) (madeQrr (now (digits .entry))) (now (dest .entry)) r
-        (now (dest .exit)) ⌝ }
+    ensures { λ r. ⌜ IsPackedQrr digits dest r ⌝ }
 {
     packed_laying(make_qrr(digits, dest))
 }
 
-// A creditor reference.
+// The length of a creditor reference, which lies in the destination's front; else 10000 or 15000, and the destination is
+// as it was.
 #[no_mangle]
 pub extern "C" fn qrbill_make_scor(reference: &[u8], dest: &mut [u8]) -> u32
-    ensures { λ r.
-        ⌜ IsPackedMade (scorPart (now (reference .entry))) (madeScor (now (reference .entry))) (now (dest .entry)) r
-        (now (dest .exit)) ⌝ }
+    ensures { λ r. ⌜ IsPackedScor reference dest r ⌝ }
 {
     packed_laying(make_scor(reference, dest))
 }
 
-// An IBAN.
+// The length of an IBAN, which lies in the destination's front; else 10000 or 15000, and the destination is as it was.
 #[no_mangle]
 pub extern "C" fn qrbill_make_iban(
     country: &[u8],
@@ -137,9 +132,7 @@ pub extern "C" fn qrbill_make_iban(
     account: &[u8],
     dest: &mut [u8],
 ) -> u32
-    ensures { λ r.
-        ⌜ IsPackedMade (ibanParts (now (country .entry)) (now (iid .entry)) (now (account .entry)))
-        (madeIban (now (country .entry)) (now (iid .entry)) (now (account .entry))) (now (dest .entry)) r (now (dest .exit)) ⌝ }
+    ensures { λ r. ⌜ IsPackedIban country iid account dest r ⌝ }
 {
     packed_laying(make_iban(country, iid, account, dest))
 }
@@ -148,8 +141,7 @@ pub extern "C" fn qrbill_make_iban(
 // bill, and the list is as it was.
 #[no_mangle]
 pub extern "C" fn qrbill_pile(buffer: &[u8], places: &[u32], count: u32, answers: &mut [u16]) -> u32
-    ensures { λ r.
-        ⌜ IsPackedPiled (now (buffer .entry)) (now (places .entry)) count (now (answers .entry)) r (now (answers .exit)) ⌝ }
+    ensures { λ r. ⌜ IsPackedPiledTo buffer places count answers r ⌝ }
 {
     match pile(buffer, places, count as usize, Edition::V24, answers) {
         Piled::Done => 0,
@@ -168,9 +160,7 @@ pub extern "C" fn qrbill_season(
     list: &mut [u16],
     sums: &mut [u64],
 ) -> u32
-    ensures { λ r.
-        ⌜ IsPackedTried (now (buffer .entry)) (now (places .entry)) count (now (list .entry)) (now (sums .entry)) r
-        (now (list .exit)) (now (sums .exit)) ⌝ }
+    ensures { λ r. ⌜ IsPackedTriedTo buffer places count list sums r ⌝ }
 {
     let room = room_beside(list.len(), sums.len(), 2);
     match season(buffer, places, count as usize, &mut list[0..room]) {
@@ -204,9 +194,7 @@ fn told_counts(counts: Counts) -> [u16; 5]
 // refusal plus the line, and neither has changed.
 #[no_mangle]
 pub extern "C" fn qrbill_swift(payload: &[u8], dest: &mut [u8], list: &mut [u16]) -> u32
-    ensures { λ r.
-        ⌜ IsPackedFields swiss (now (payload .entry)) (now (dest .entry)) (now (list .entry)) r (now (dest .exit))
-        (now (list .exit)) ⌝ }
+    ensures { λ r. ⌜ IsPackedFieldsTo swiss payload dest list r ⌝ }
 {
     let room = room_beside(dest.len(), list.len(), 5);
     match fields(payload, Edition::V24, &mut dest[0..room]) {
@@ -244,9 +232,7 @@ fn told_repairs(repairs: Repairs) -> [u16; 3]
 // the refusal plus the line, and neither has changed.
 #[no_mangle]
 pub extern "C" fn qrbill_mend(payload: &[u8], dest: &mut [u8], list: &mut [u16]) -> u32
-    ensures { λ r.
-        ⌜ IsPackedMended (now (payload .entry)) (now (dest .entry)) (now (list .entry)) r (now (dest .exit))
-        (now (list .exit)) ⌝ }
+    ensures { λ r. ⌜ IsPackedMendedTo payload dest list r ⌝ }
 {
     let room = room_beside(dest.len(), list.len(), 3);
     match mend(payload, &mut dest[0..room]) {

@@ -110,7 +110,7 @@ fn write_view(payload: &[u8]) {
 }
 
 fn run_reading(payload: &[u8], edition: Edition) {
-    let mut list = [0u16; 102];
+    let mut list = [0u16; Edition::LIST_SIZE];
     write_answer(reader::read(payload, edition, &mut list));
 }
 

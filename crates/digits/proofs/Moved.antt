@@ -6,7 +6,8 @@ use lib.ListN.{length, take, drop, length-drop, drop-of-length-le}
 use lib.Seq.{take-all}
 use Rattle.sieve.specs.Bytes.{Bytes}
 use Rattle.sieve.specs.Mod97.{number, remainder97}
-use Rattle.digits.proofs.Remainders.{carried, appended}
+use Rattle.sieve.proofs.Decimals.{number-after}
+use Rattle.digits.proofs.Remainders.{carried}
 
 -- fewer than four characters: there is none to move them past
 pub unmoved : (s : Bytes) → length s < 4 → number 0 s % 97 ≡ remainder97 s
@@ -18,7 +19,7 @@ unmoved s h =
 -- two readings, the second after the remainder that the first leaves
 pub moved-behind : (s : Bytes) (r : ℕ) → r ≡ number 0 (drop 4 s) % 97 → number r (take 4 s) % 97 ≡ remainder97 s
 unfolding remainder97
-moved-behind s r e = rw (e, appended) (sym (carried (number 0 (drop 4 s)) (take 4 s)))
+moved-behind s r e = rw (e, number-after) (sym (carried (number 0 (drop 4 s)) (take 4 s)))
 
 -- what is behind the four, as the part of the text that it is
 pub moved : (s : Bytes) (r : ℕ) → r ≡ number 0 (take (length s - 4) (drop 4 s)) % 97 → number r (take 4 s) % 97 ≡ remainder97 s

@@ -11,7 +11,8 @@ use Rattle.sieve.specs.Bytes.{Bytes}
 use Rattle.sieve.specs.Letters.{digit}
 use Rattle.sieve.specs.Mod97.{value, onto, number}
 use Rattle.digits.specs.Weight.{weight}
-use Rattle.sieve.proofs.Folds.{Fold, step, end, after}
+use Rattle.sieve.proofs.Decimals.{number-after}
+use Rattle.sieve.proofs.Folds.{Fold, step, end}
 
 pub numbers : Fold number onto
 unfolding number
@@ -52,10 +53,6 @@ two-turns n r s i h e =
 pub no-turn : (n r : ℕ) (s : Bytes) (i : ℕ) → length s ≤ i → r < 97 → number n s % 97 ≡ number r (drop i s) % 97 → r ≡ number n s % 97
 no-turn n r s i h small e = rw (e, end numbers r s i h) (omega arith)
 
--- a text after a text
-pub appended : (n : ℕ) (a b : Bytes) → number n (a ++ b) ≡ number (number n a) b
-appended n a b = after numbers n a b
-
 -- what stands before a text counts as many times as the text weighs
 pub summed : (n : ℕ) (s : Bytes) → number n s ≡ n * weight s + number 0 s
 unfolding number weight
@@ -67,4 +64,4 @@ pub one-changed : (n : ℕ) (a b : Bytes) (x y : ℕ) → digit x ≡ digit y
     → number n (a ++ (x ∷ b)) + value y * weight b ≡ number n (a ++ (y ∷ b)) + value x * weight b
 unfolding number
 one-changed n a b x y e =
-    rw (appended n a (x ∷ b), appended n a (y ∷ b), summed (onto (number n a) x) b, summed (onto (number n a) y) b, e) (omega arith)
+    rw (number-after n a (x ∷ b), number-after n a (y ∷ b), summed (onto (number n a) x) b, summed (onto (number n a) y) b, e) (omega arith)

@@ -9,7 +9,7 @@ use Rattle.sieve.specs.Bytes.{Bytes}
 use Rattle.sieve.specs.Rules.{Rule}
 use Rattle.sieve.specs.Verdict.{Refusal, under, found, aboutLines, first}
 use Rattle.sieve.specs.declared.Fault.{Fault}
-use Rattle.sieve.specs.declared.Fault.the-variants.{NotFixedText, NotEmpty, Missing, TooLong, BadForm, BadCheckDigits, Unpaired, TooLongTogether, UnreadCoding}
+use Rattle.sieve.specs.declared.Fault.the-variants.{NoBytes, NotFixedText, NotEmpty, Missing, TooLong, BadForm, BadCheckDigits, Unpaired, TooLongTogether, UnreadCoding}
 use Rattle.findings.specs.declared.Finding.{Finding}
 
 -- a refusal in small: its number and its line, or twice 0 where there is none
@@ -29,7 +29,8 @@ finds rs ls = small (first (map (aboutLines ls) rs))
 abbrev pub from : ℕ → List Bytes → List Bytes
 from n ls = replicate (n - 1) [] ++ ls
 
--- the fault that a finding under a rule about lines is, 6 to 13 or 17
+-- the fault that a finding under a rule about lines is, 6 to 13 or 17. No such rule has another number; it would be told as
+-- rule 1, which no line breaks
 abbrev pub faultOf : ℕ → ℕ → Fault
 faultOf number line =
     cond (eqb number 6) (NotFixedText line)
@@ -39,5 +40,6 @@ faultOf number line =
     (cond (eqb number 10) (BadForm line)
     (cond (eqb number 11) (BadCheckDigits line)
     (cond (eqb number 12) (Unpaired line)
+    (cond (eqb number 13) (TooLongTogether line)
     (cond (eqb number 17) (UnreadCoding line)
-    (TooLongTogether line))))))))
+    NoBytes))))))))

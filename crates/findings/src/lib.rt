@@ -75,7 +75,8 @@ pub fn checked(before: Finding, n: usize, right: bool) -> Finding
     rule(before, !right, 11, n)
 }
 
-// The fault that a finding under a rule about lines is, 6 to 13 or 17.
+// The fault that a finding under a rule about lines is, 6 to 13 or 17. No such rule has another number; it would be told as
+// rule 1, which no line breaks.
 pub fn fault_of(found: Finding) -> Fault
     ensures { λ r. ⌜ r ≡ faultOf (found .number) (found .line) ⌝ }
 {
@@ -89,7 +90,8 @@ pub fn fault_of(found: Finding) -> Fault
         10 => Fault::BadForm(line),
         11 => Fault::BadCheckDigits(line),
         12 => Fault::Unpaired(line),
+        13 => Fault::TooLongTogether(line),
         17 => Fault::UnreadCoding(line),
-        _ => Fault::TooLongTogether(line),
+        _ => Fault::NoBytes,
     }
 }

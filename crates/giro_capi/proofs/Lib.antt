@@ -1,2 +1,1 @@
-pub mod Packs
 pub mod OneAnswer

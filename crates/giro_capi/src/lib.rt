@@ -11,11 +11,12 @@ use packing::packed_laying;
 use packing::packed_line;
 use packing::packed_verdict;
 use packing::told_count;
+use sieve::WALK_NUMBERS;
 ghost use mathlib.Core.Path.{_≡_};
 ghost use Rattle.sieve.specs.Verdict.{verdict};
 ghost use Rattle.girocode.specs.Girocode.{girocode};
-ghost use Rattle.packing.specs.Packing.{packed, breakFor};
-ghost use Rattle.packing.specs.Calls.{packedLine, IsPackedRead, IsPackedWritten};
+ghost use Rattle.packing.specs.Packing.{packed};
+ghost use Rattle.packing.specs.Calls.{packedLine, IsPackedRead, IsPackedWrittenTo};
 
 // The line count of an accepted girocode; of a refused one 1000 times the refusal plus the line.
 #[no_mangle]
@@ -31,7 +32,7 @@ pub extern "C" fn girocode_read(payload: &[u8]) -> u32
 pub extern "C" fn girocode_line(payload: &[u8], line: u32) -> u32
     ensures { λ r. ⌜ r ≡ packedLine girocode (now (payload .entry)) line (verdict girocode (now (payload .entry))) ⌝ }
 {
-    let mut places = [0; 68];
+    let mut places = [0; WALK_NUMBERS];
     let answer = judge(payload, &mut places);
     packed_line(answer, &places, line, MOST_LINES)
 }
@@ -54,9 +55,7 @@ pub extern "C" fn girocode_write(
     crlf: bool,
     dest: &mut [u8],
 ) -> u32
-    ensures { λ r.
-        ⌜ IsPackedWritten girocode (now (text .entry)) (now (list .entry)) count (breakFor crlf) (now (dest .entry)) r
-        (now (dest .exit)) ⌝ }
+    ensures { λ r. ⌜ IsPackedWrittenTo girocode text list count crlf dest r ⌝ }
 {
     packed_laying(write(text, list, told_count(count), break_for(crlf), dest))
 }

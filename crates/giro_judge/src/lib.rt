@@ -6,6 +6,7 @@ use places::clear;
 use runs::same;
 use sieve::Answer;
 use sieve::Charset;
+use sieve::WALK_NUMBERS;
 use text::line_place;
 use whole::whole;
 ghost use mathlib.Core.Path.{_≡_};
@@ -27,7 +28,7 @@ fn read_as_iso(payload: &[u8]) -> bool
 }
 
 // The verdict on any bytes, with the places of an accepted payload's lines in the list; of a refused one it holds none.
-pub fn judge(payload: &[u8], places: &mut [u16; 68]) -> Answer
+pub fn judge(payload: &[u8], places: &mut [u16; WALK_NUMBERS]) -> Answer
     ensures { λ r. ⌜ IsJudged girocode (now (payload .entry)) r (now (places .exit)) ⌝ }
 {
     let iso = read_as_iso(payload);
@@ -53,6 +54,6 @@ pub fn judge(payload: &[u8], places: &mut [u16; 68]) -> Answer
 pub fn verdict(payload: &[u8]) -> Answer
     ensures { λ r. ⌜ paper r ≡ verdict girocode (now (payload .entry)) ⌝ }
 {
-    let mut places = [0; 68];
+    let mut places = [0; WALK_NUMBERS];
     judge(payload, &mut places)
 }

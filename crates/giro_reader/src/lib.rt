@@ -4,6 +4,7 @@ use girocode::limits::LIST_SIZE;
 use runs::fill;
 use sieve::Answer;
 use sieve::Fault;
+use sieve::WALK_NUMBERS;
 ghost use Rattle.sieve.specs.Reading.{IsRead};
 ghost use Rattle.girocode.specs.Girocode.{girocode};
 
@@ -13,14 +14,14 @@ ghost use Rattle.girocode.specs.Girocode.{girocode};
 pub fn read(payload: &[u8], list: &mut [u16]) -> Answer
     ensures { λ r. ⌜ IsRead girocode (now (payload .entry)) (now (list .entry)) r (now (list .exit)) ⌝ }
 {
-    let mut places = [0; 68];
+    let mut places = [0; WALK_NUMBERS];
     match judge(payload, &mut places) {
         Answer::Refused(f) => Answer::Refused(f),
         Answer::Accepted(n, k) => {
             if list.len() < LIST_SIZE {
                 return Answer::Refused(Fault::NoRoom);
             }
-            fill(list, &places[0..24]);
+            fill(list, &places[0..LIST_SIZE]);
             Answer::Accepted(n, k)
         }
     }

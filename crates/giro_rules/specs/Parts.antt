@@ -3,12 +3,18 @@ use Prim.Native.Nat.{ℕ}
 use mathlib.Core.Bool.{Bool}
 use mathlib.Core.List.{List, [], _∷_, flatten}
 use mathlib.Core.Path.{_≡_}
+use denote.Ref.{RefT, now}
+use denote.Triple.Both.{Both}
 use Rattle.sieve.specs.Bytes.{Bytes}
 use Rattle.sieve.specs.Lines.{cut, linesOf}
 use Rattle.sieve.specs.Rules.{Rule}
 use Rattle.girocode.specs.Coding.{readAsIso}
 use Rattle.girocode.specs.Girocode.{information, exclusive}
 use Rattle.places.specs.Listed.{listed}
+
+-- lines 1 to 4, of what a call is lent
+abbrev pub headerLines : (tag version coding function : Both (RefT Bytes) (RefT Bytes)) → List Bytes
+headerLines tag version coding function = now (tag .entry) ∷ now (version .entry) ∷ now (coding .entry) ∷ now (function .entry) ∷ []
 
 -- lines 10 to 12, and those that go together
 unfoldable pub back : List Rule

@@ -12,8 +12,8 @@ use girocode::limits;
 use places::line;
 use runs::longer;
 use runs::same;
+use sieve::WALK_NUMBERS;
 ghost use mathlib.Core.Bool.{cond};
-ghost use mathlib.Core.List.{[], _∷_};
 ghost use mathlib.Core.Path.{_≡_};
 ghost use lib.Dec.{ltb};
 ghost use lib.ListN.{length};
@@ -22,12 +22,11 @@ ghost use Rattle.sieve.specs.Lines.{cut, linesOf};
 ghost use Rattle.girocode.specs.Girocode.{header, receiver, payment, rules};
 ghost use Rattle.findings.specs.Findings.{finds};
 ghost use Rattle.places.specs.Listed.{Counted};
-ghost use Rattle.giro_rules.specs.Parts.{back, Coded};
+ghost use Rattle.giro_rules.specs.Parts.{headerLines, back, Coded};
 
 // Lines 1 to 4.
 pub fn header(tag: &[u8], version: &[u8], coding: &[u8], function: &[u8]) -> Finding
-    ensures { λ r.
-        ⌜ r ≡ finds header (now (tag .entry) ∷ now (version .entry) ∷ now (coding .entry) ∷ now (function .entry) ∷ []) ⌝ }
+    ensures { λ r. ⌜ r ≡ finds header (headerLines tag version coding function) ⌝ }
 {
     let f = fixed(KEPT, tag, 1, &limits::SERVICE_TAG);
     let known = same(version, &limits::VERSION_001) | same(version, &limits::VERSION_002);
@@ -47,7 +46,7 @@ fn too_long(l: &[u8], most: usize, iso: bool) -> bool
 }
 
 // Lines 5 to 7.
-fn receiver(payload: &[u8], places: &[u16; 68], iso: bool) -> Finding
+fn receiver(payload: &[u8], places: &[u16; WALK_NUMBERS], iso: bool) -> Finding
     requires { ⌜ Coded (now payload) (now places) iso ⌝ }
     ensures { λ r. ⌜ r ≡ finds receiver (linesOf (cut (now (payload .entry)))) ⌝ }
 {
@@ -65,7 +64,7 @@ fn receiver(payload: &[u8], places: &[u16; 68], iso: bool) -> Finding
 }
 
 // Lines 8 and 9, of a payload of so many lines.
-fn payment(payload: &[u8], places: &[u16; 68], count: usize, iso: bool) -> Finding
+fn payment(payload: &[u8], places: &[u16; WALK_NUMBERS], count: usize, iso: bool) -> Finding
     requires { ⌜ Coded (now payload) (now places) iso × Counted (now payload) (now places) count ⌝ }
     ensures { λ r. ⌜ r ≡ finds payment (linesOf (cut (now (payload .entry)))) ⌝ }
 {
@@ -79,7 +78,7 @@ fn payment(payload: &[u8], places: &[u16; 68], count: usize, iso: bool) -> Findi
 }
 
 // Lines 10 to 12, of a payload of so many lines; then reference and text, which are not both filled.
-fn information(payload: &[u8], places: &[u16; 68], count: usize, iso: bool) -> Finding
+fn information(payload: &[u8], places: &[u16; WALK_NUMBERS], count: usize, iso: bool) -> Finding
     requires { ⌜ Coded (now payload) (now places) iso × Counted (now payload) (now places) count ⌝ }
     ensures { λ r. ⌜ r ≡ finds back (linesOf (cut (now (payload .entry)))) ⌝ }
 {
@@ -97,7 +96,7 @@ fn information(payload: &[u8], places: &[u16; 68], count: usize, iso: bool) -> F
 }
 
 // All rules about lines, in the order of the sieve, of a payload of so many lines, in ISO 8859-1 or not.
-pub fn rules(payload: &[u8], places: &[u16; 68], count: usize, iso: bool) -> Finding
+pub fn rules(payload: &[u8], places: &[u16; WALK_NUMBERS], count: usize, iso: bool) -> Finding
     requires { ⌜ Coded (now payload) (now places) iso × Counted (now payload) (now places) count ⌝ }
     ensures { λ r. ⌜ r ≡ finds rules (linesOf (cut (now (payload .entry)))) ⌝ }
 {

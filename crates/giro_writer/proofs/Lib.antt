@@ -1,3 +1,2 @@
-pub mod Suits
 pub mod Promise
 pub mod OneAnswer

@@ -1,4 +1,5 @@
 pub mod DemandThree
+pub mod Serves
 pub mod Promises
 pub mod Numbers
 pub mod Size

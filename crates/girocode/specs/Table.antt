@@ -26,7 +26,7 @@ long = iso (put 2 "002" (put 5 "" (put 10 "" (putBytes 6 (times 70 umlautIso) (p
 abbrev texted : Bytes → List Bytes
 texted l = put 10 "" (putBytes 11 l G)
 
-pub table : List Case
+unfoldable pub table : List Case
 table =
     -- 002's examples 2, 3 and 5, and 1, whose IBAN has small letters
     case Lf G (accepted 12 Lf)

@@ -1,12 +1,12 @@
 -- What lines 1 to 4 are where nothing is found in them: three texts of known lengths, and an IBAN. Assumes nothing.
 use Prim.Native.Nat.{ℕ, zero, suc}
-use mathlib.Core.Bool.{Bool, true, false, true≢false, _&&_, not, and-eq-true-iff}
+use mathlib.Core.Bool.{true, false, true≢false, _&&_, not, and-eq-true-iff}
 use mathlib.Core.List.{List, [], _∷_}
 use mathlib.Core.Option.{Option, some, none, Option·none-ne-some}
-use mathlib.Core.Path.{_≡_, refl, sym, ap, _∙_}
+use mathlib.Core.Path.{_≡_, refl, sym, ap}
 use lib.Dec.{eqb}
 use lib.ListN.{length, take}
-use borrow.Author.Tests.{eqb-true, not-false}
+use borrow.Author.Tests.{not-false}
 use Rattle.sieve.specs.Bytes.{Bytes, ascii, same}
 use Rattle.sieve.specs.Mod97.{checks97}
 use Rattle.sieve.specs.Rules.{line, noText}
@@ -14,6 +14,7 @@ use Rattle.sieve.specs.Verdict.{Refusal, first}
 use Rattle.sieve.proofs.Findings.{found-none, each-none}
 use Rattle.swiss.specs.Forms.{iban}
 use Rattle.swiss.specs.Limits.{qrType, version, coding}
+use Rattle.swiss.proofs.Forms.{iban-length}
 use Rattle.glance.specs.Glance.{foundIn}
 
 -- texts that are the same are of one length
@@ -22,13 +23,6 @@ same-length [] [] h = refl
 same-length [] (y ∷ t) h = absurd (true≢false (sym h))
 same-length (x ∷ s) [] h = absurd (true≢false (sym h))
 same-length (x ∷ s) (y ∷ t) h = let (e, f) = and-eq-true-iff (eqb x y) _ .0 h in ap suc (same-length s t f)
-
-iban-length : (l : Bytes) → iban l ≡ true → length l ≡ 21
-iban-length l h = go (eqb (length l) 21) refl
-  where
-    go : (b : Bool) → eqb (length l) 21 ≡ b → length l ≡ 21
-    go true e = eqb-true (length l) 21 e
-    go false e = absurd (true≢false (sym h ∙ rw e))
 
 -- where nothing is found, nothing is found in the front
 pub none-in-front : (os : List (Option Refusal)) (n : ℕ) → first os ≡ none → first (take n os) ≡ none

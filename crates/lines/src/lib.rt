@@ -6,10 +6,11 @@ use characters::plain_run;
 use marks::first_marked;
 use marks::later_marks;
 use marks::marks_at;
-use places::CAPACITY;
 use places::clear;
 use sieve::Break;
 use sieve::Charset;
+use sieve::WALK_LINES;
+use sieve::WALK_NUMBERS;
 use text::feed_after;
 ghost use mathlib.Core.Path.{_≡_};
 ghost use Prim.Native.Nat.{_-_, _≤_};
@@ -58,7 +59,7 @@ fn note(places: &mut [u16], n: usize, start: usize, bytes: usize)
     requires { ⌜ length (now places) ≡ room ⌝ }
     ensures { λ _. ⌜ now (places .exit) ≡ noted (now (places .entry)) n start bytes ⌝ }
 {
-    if n < CAPACITY {
+    if n < WALK_LINES {
         places[2 * n] = (start % 65536) as u16;
         places[2 * n + 1] = (bytes % 65536) as u16;
     }
@@ -93,7 +94,7 @@ fn eights(n: usize) -> usize
 
 // Passes lines of characters by themselves, eight bytes at once, from the start of a line on: to a byte that is neither
 // such a character nor of a break, to the end of the list, or to where fewer than eight bytes are left.
-fn pass_lines(s: &[u8], places: &mut [u16; 68], passed: Passed) -> Standing
+fn pass_lines(s: &[u8], places: &mut [u16; WALK_NUMBERS], passed: Passed) -> Standing
     requires { ⌜ Begun (now s) (now places) passed ⌝ }
     ensures { λ r. ⌜ GoneOn (now (s .entry)) (now (places .entry)) passed (now (places .exit)) r ⌝ }
 {
@@ -104,7 +105,7 @@ fn pass_lines(s: &[u8], places: &mut [u16; 68], passed: Passed) -> Standing
         let mut left = marks_at(s, from);
         while left != 0 {
             let at = from + first_marked(left);
-            if CAPACITY <= p.feeds {
+            if WALK_LINES <= p.feeds {
                 return Standing { passed: p, at };
             }
             let mark = s[at];
@@ -137,7 +138,7 @@ const NONE_PASSED: Passed = Passed {
 // Walks line by line, and in each line character by character, to the first place where neither a character nor a
 // break begins. What ends a line is one LF, alone or after CR. Most lines are of characters that are one byte in each set, 20
 // to 7E, and are passed eight bytes at once; only from where that ends is a line walked by itself.
-fn come(s: &[u8], set: Charset, places: &mut [u16; 68]) -> Came
+fn come(s: &[u8], set: Charset, places: &mut [u16; WALK_NUMBERS]) -> Came
     ensures { λ r. ⌜ r .walked ≡ walked (now (s .entry)) (badPlace (ofSet set) (now (s .entry))) ⌝ }
     ensures { λ r. ⌜ IsCame (now (s .entry)) r (now (places .exit)) ⌝ }
 {
@@ -200,7 +201,7 @@ fn list_absent(s: &[u8], places: &mut [u16], n: usize)
 {
     let end = s.len();
     let mut i = n;
-    while i < CAPACITY {
+    while i < WALK_LINES {
         places[2 * i] = end as u16;
         places[2 * i + 1] = 0;
         i += 1;
@@ -208,7 +209,7 @@ fn list_absent(s: &[u8], places: &mut [u16], n: usize)
 }
 
 // The list of bytes of which none is bad: their last line ends with them. 16 bits do not count more than GREATEST.
-fn list(s: &[u8], passed: Passed, places: &mut [u16; 68])
+fn list(s: &[u8], passed: Passed, places: &mut [u16; WALK_NUMBERS])
     requires { ⌜ IsListed (now s) passed (now places) ⌝ }
     ensures { λ _. ⌜ now (places .exit) ≡ listedShort (now (s .entry)) ⌝ }
 {
@@ -224,7 +225,7 @@ fn list(s: &[u8], passed: Passed, places: &mut [u16; 68])
 
 // The whole walk, over any bytes. The list that is lent gets start and length of each of 34 lines; it is cleared where
 // a byte is bad, or where the bytes are more than 16 bits count.
-pub fn walk(s: &[u8], set: Charset, places: &mut [u16; 68]) -> Told
+pub fn walk(s: &[u8], set: Charset, places: &mut [u16; WALK_NUMBERS]) -> Told
     ensures { λ r. ⌜ IsTold (now (s .entry)) (badPlace (ofSet set) (now (s .entry))) r (now (places .exit)) ⌝ }
 {
     let came = come(s, set, places);

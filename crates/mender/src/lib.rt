@@ -37,7 +37,7 @@ struct Reach {
     line: usize,
 }
 
-// The same, with what was counted: breaks that were not LF, and those of them that were CR LF.
+// How far bytes are laid, with what was counted: breaks that were not LF, and those of them that were CR LF.
 struct Tally {
     reach: Reach,
     breaks: usize,

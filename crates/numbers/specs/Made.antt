@@ -10,6 +10,7 @@ use Rattle.sieve.specs.Letters.{digit, digitOrCapital, alphanumeric}
 use Rattle.sieve.specs.Mod97.{remainder97, checks97}
 use Rattle.sieve.specs.Mod10.{checkDigit, checks10}
 use Rattle.sieve.specs.Pairs.{asTwo, duePair}
+use Rattle.swiss.specs.Limits.{creditorMark}
 use Rattle.swiss.specs.Forms.{ibanCountry, iban, qrr, scor}
 
 -- a QR reference is made from 26 digits, not all zero, and the digit that they ask for
@@ -50,7 +51,7 @@ abbrev pub scorPart : Bytes → Bool
 scorPart rest = within 1 21 (length rest) && every alphanumeric rest
 
 abbrev pub madeScor : Bytes → Bytes
-madeScor rest = withPair (ascii "RF") rest
+madeScor rest = withPair (ascii creditorMark) rest
 
 -- an IBAN is made from CH or LI, an IID of five digits, and twelve of 0-9 A-Z
 

@@ -7,15 +7,12 @@ use runs::lay;
 use runs::same;
 use sieve::Fault;
 use sieve::Written;
+use swiss::Edition;
 ghost use mathlib.Core.Path.{_≡_};
-ghost use mathlib.Core.Bool.{true};
-ghost use mathlib.Core.List.{_++_};
 ghost use Prim.Native.Nat.{_+_, _≤_};
 ghost use lib.ListN.{length};
-ghost use Rattle.sieve.specs.Bytes.{over};
-ghost use Rattle.numbers.specs.Made.{qrrPart, madeQrr, laidAt, paired, HasRoom, Parts, withPair};
-ghost use Rattle.numbers.specs.Made.{scorPart, madeScor, ibanParts, madeIban};
-ghost use Rattle.numbers.specs.Making.{IsMade};
+ghost use Rattle.numbers.specs.Made.{qrrPart, laidAt, paired, HasRoom, Parts, scorPart, ibanParts};
+ghost use Rattle.numbers.specs.Making.{IsQrrMade, IsPairLaid, IsPairMade, IsScorMade, IsIbanMade};
 
 // Copies a part into the destination, at a place where there is room for it.
 fn lay_at(dest: &mut [u8], at: usize, part: &[u8])
@@ -34,8 +31,7 @@ fn qrr_part(s: &[u8]) -> bool
 
 // A QR reference from its first 26 digits.
 pub fn make_qrr(digits: &[u8], dest: &mut [u8]) -> Written
-    ensures { λ r.
-        ⌜ IsMade (qrrPart (now (digits .entry))) (madeQrr (now (digits .entry))) (now (dest .entry)) r (now (dest .exit)) ⌝ }
+    ensures { λ r. ⌜ IsQrrMade digits dest r ⌝ }
 {
     if qrr_part(digits) {
         if dest.len() < 27 {
@@ -62,8 +58,7 @@ fn set_pair(text: &mut [u8])
 // Lays a head, the pair that is due and a rest of two parts in the front of a destination that has room for them.
 fn lay_with_pair(head: &[u8], first: &[u8], second: &[u8], dest: &mut [u8])
     requires { ⌜ HasRoom (now head) (now first) (now second) (now dest) ⌝ }
-    ensures { λ _.
-        ⌜ now (dest .exit) ≡ over (now (dest .entry)) (withPair (now (head .entry)) (now (first .entry) ++ now (second .entry))) ⌝ }
+    ensures { λ _. ⌜ IsPairLaid head first second dest ⌝ }
 {
     let second_at = 4 + first.len();
     let end = second_at + second.len();
@@ -77,9 +72,7 @@ fn lay_with_pair(head: &[u8], first: &[u8], second: &[u8], dest: &mut [u8])
 // Makes a number with a pair from parts of the right form, if there is room.
 fn make_with_pair(head: &[u8], first: &[u8], second: &[u8], dest: &mut [u8]) -> Written
     requires { ⌜ Parts (now head) (now first) (now second) ⌝ }
-    ensures { λ r.
-        ⌜ IsMade true (withPair (now (head .entry)) (now (first .entry) ++ now (second .entry))) (now (dest .entry)) r
-        (now (dest .exit)) ⌝ }
+    ensures { λ r. ⌜ IsPairMade head first second dest r ⌝ }
 {
     let n = 4 + first.len() + second.len();
     if dest.len() < n {
@@ -98,12 +91,10 @@ fn scor_part(s: &[u8]) -> bool
 
 // A creditor reference from what follows its pair. Letters stay as they are, small or not.
 pub fn make_scor(reference: &[u8], dest: &mut [u8]) -> Written
-    ensures { λ r.
-        ⌜ IsMade (scorPart (now (reference .entry))) (madeScor (now (reference .entry))) (now (dest .entry)) r
-        (now (dest .exit)) ⌝ }
+    ensures { λ r. ⌜ IsScorMade reference dest r ⌝ }
 {
     if scor_part(reference) {
-        return make_with_pair(b"RF", reference, b"", dest);
+        return make_with_pair(&Edition::CREDITOR_MARK, reference, b"", dest);
     }
     Written::Refused(Fault::BadForm(0))
 }
@@ -112,16 +103,14 @@ pub fn make_scor(reference: &[u8], dest: &mut [u8]) -> Written
 fn iban_parts(country: &[u8], iid: &[u8], account: &[u8]) -> bool
     ensures { λ r. ⌜ r ≡ ibanParts (now (country .entry)) (now (iid .entry)) (now (account .entry)) ⌝ }
 {
-    (same(country, b"CH") | same(country, b"LI"))
+    (same(country, &Edition::SWITZERLAND) | same(country, &Edition::LIECHTENSTEIN))
         & ((iid.len() == 5) & every(Kind::Digit, iid))
         & ((account.len() == 12) & every(Kind::DigitOrCapital, account))
 }
 
 // An IBAN from its country, its IID and the account at that bank.
 pub fn make_iban(country: &[u8], iid: &[u8], account: &[u8], dest: &mut [u8]) -> Written
-    ensures { λ r.
-        ⌜ IsMade (ibanParts (now (country .entry)) (now (iid .entry)) (now (account .entry)))
-        (madeIban (now (country .entry)) (now (iid .entry)) (now (account .entry))) (now (dest .entry)) r (now (dest .exit)) ⌝ }
+    ensures { λ r. ⌜ IsIbanMade country iid account dest r ⌝ }
 {
     if iban_parts(country, iid, account) {
         return make_with_pair(country, iid, account, dest);

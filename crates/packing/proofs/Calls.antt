@@ -14,18 +14,16 @@ use Rattle.sieve.specs.declared.Break.{Break}
 use Rattle.sieve.specs.declared.Written.{Written}
 use Rattle.sieve.specs.declared.Written.the-variants.{Length, Refused as NotWritten}
 use Rattle.sieve.specs.Bytes.{Bytes, within}
-use Rattle.sieve.specs.Lawful.{Lawful}
 use Rattle.sieve.specs.Lines.{billOf}
 use Rattle.sieve.specs.Paper.{Laying, not-laid, paper, paperWritten}
 use Rattle.sieve.specs.Places.{listSize}
 use Rattle.sieve.specs.Reading.{Done, IsRead}
 use Rattle.sieve.specs.Rules.{Layout}
-use Rattle.sieve.specs.Verdict.{Verdict, under, accepted, refused, findings, first, verdict}
+use Rattle.sieve.specs.Serves.{Serves}
+use Rattle.sieve.specs.Verdict.{Verdict, under, accepted, refused, first, verdict}
 use Rattle.sieve.specs.Writing.{writeFindings, writeAnswer, IsWritten}
 use Rattle.sieve.proofs.Bounds.{is-within}
-use Rattle.sieve.proofs.DemandThree.{demand-three}
-use Rattle.sieve.proofs.Findings.{settled-refuses, verdict-is}
-use Rattle.sieve.proofs.Numbers.{Each, Small, line-count}
+use Rattle.sieve.proofs.Numbers.{small-verdict, line-count}
 use Rattle.sieve.proofs.SmallAnswers.{read-line, read-count, write-line, write-length}
 use Rattle.whole.specs.Judged.{IsJudged}
 use Rattle.whole.proofs.Shown.{lie}
@@ -71,37 +69,29 @@ written-packed {L} {text} {dest} {list = list} {k = k} h t e =
     let same = ap (λ (c : ℕ). writeAnswer L text list c k dest) t in
     record { number = e ∙ ap packedLaying (h .answer) ∙ ap (λ (d : Done Laying). packedLaying (d .answer)) same; lent = h .lent ∙ ap (λ (d : Done Laying). d .lent) same }
 
--- a layout whose answers pack: what is found in a payload is small, and the walk's list has room for its lines and counts its bytes
-pub record Packable (L : Layout) : Type 0 where
-  pub laws : (ls : List Bytes) → Lawful (L .width ls)
-  pub two : 2 ≤ L .fewest-lines
-  pub small : (p : Bytes) → Each Small (first (findings L p))
-  pub few : L .most-lines ≤ 34
-  pub short : L .most-bytes ≤ 65535
-
-module _ {L : Layout} (is : Packable L) where
+module _ {L : Layout} (serves : Serves L) where
   -- what is answered packs: a verdict, a reading, a writing of fewer than 1000 lines
 
   pub verdict-packs : (p : Bytes) → Packs (verdict L p)
   verdict-packs p = go (verdict L p) refl
     where
       go : (v : Verdict) → verdict L p ≡ v → Packs v
-      go (accepted n k) e = omega (arith, line-count L (demand-three L (is .laws) (is .two)) p n k e, is .few)
-      go (refused r) e = is .small p r (settled-refuses (billOf p) (first (findings L p)) r (sym (verdict-is L p) ∙ e)) .line
+      go (accepted n k) e = omega (arith, line-count serves p n k e, serves .few)
+      go (refused r) e = small-verdict serves p r e .line
 
   pub reading-packs : {p : Bytes} {list after : List ℕ} {q : Answer} → IsRead L p list q after → Packs (paper q)
   reading-packs {q = q} h = go q refl
     where
       go : (r : Answer) → q ≡ r → Packs (paper r)
-      go (Accepted n k) e = omega (arith, read-count L (is .laws) (is .two) (is .small) h e, is .few)
-      go (Refused f) e = read-line L (is .laws) (is .two) (is .small) h e
+      go (Accepted n k) e = omega (arith, read-count serves h e, serves .few)
+      go (Refused f) e = read-line serves h e
 
   pub writing-packs : {text dest after : Bytes} {list : List ℕ} {count : ℕ} {k : Break} {w : Written} → IsWritten L text list count k dest w after → count < 1000 → PacksLaying (paperWritten w)
   writing-packs {w = w} h low = go w refl
     where
       go : (r : Written) → w ≡ r → PacksLaying (paperWritten r)
-      go (Length n) e = omega (arith, write-length L (is .laws) (is .two) (is .small) h e, is .short)
-      go (NotWritten f) e = write-line L (is .laws) (is .two) (is .small) h low e
+      go (Length n) e = omega (arith, write-length serves h e, serves .short)
+      go (NotWritten f) e = write-line serves h low e
 
   -- of a line that the layout may have, the walk's list says where it lies
   pub line-packed : {p : Bytes} {q : Answer} {places : List ℕ} → IsJudged L p q places → (i : ℕ) → linePlace (L .most-lines) places i (paper q) ≡ packedLine L p i (verdict L p)
@@ -115,7 +105,7 @@ module _ {L : Layout} (is : Packable L) where
           listed false w = refl
           listed true w =
               let (least, most) = is-within 1 _ i w in
-              sym (listed-in-front (2 * L .most-lines) places i (omega (arith, least, most))) ∙ ap (λ (l : List ℕ). listedPlace l i) (lie L p (rw e at h) (is .few) (is .short))
+              sym (listed-in-front (2 * L .most-lines) places i (omega (arith, least, most))) ∙ ap (λ (l : List ℕ). listedPlace l i) (lie L p (rw e at h) (serves .few) (omega (arith, serves .short)))
 
 -- with a list that is long enough, a count that the layout has not is told under 5, and 999 in its place where it is more
 pub count-told : (L : Layout) (text dest after : Bytes) (list : List ℕ) (count : ℕ) (k : Break) (n : ℕ) → L .most-lines < 999 → listSize L ≤ length list → within (L .fewest-lines) (L .most-lines) count ≡ false

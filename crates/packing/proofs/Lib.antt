@@ -1,4 +1,5 @@
 pub mod Packing
 pub mod Telling
+pub mod Beside
 pub mod Calls
 pub mod OneAnswer

@@ -1,9 +1,11 @@
 -- What the calls for C of a layout answer: the place of a line; the reader and the writer, and what lent memory then holds. Assumes nothing.
 use Prim.Native.Nat.{ℕ, _+_, _-_, _*_, _≤_}
-use mathlib.Core.Bool.{cond}
+use mathlib.Core.Bool.{Bool, cond}
 use mathlib.Core.List.{List}
 use mathlib.Core.Path.{_≡_}
 use lib.ListN.{length, getD}
+use denote.Ref.{RefT, now}
+use denote.Triple.Both.{Both}
 use Rattle.sieve.specs.declared.Break.{Break}
 use Rattle.sieve.specs.Bytes.{Bytes, within}
 use Rattle.sieve.specs.Lines.{Bill, written, billOf}
@@ -12,7 +14,7 @@ use Rattle.sieve.specs.Reading.{readAnswer}
 use Rattle.sieve.specs.Rules.{Layout}
 use Rattle.sieve.specs.Verdict.{Verdict, accepted, refused}
 use Rattle.sieve.specs.Writing.{writeAnswer}
-use Rattle.packing.specs.Packing.{packedPlace, packedVerdict, packedLaying, toldCount}
+use Rattle.packing.specs.Packing.{packedPlace, packedVerdict, packedLaying, toldCount, breakFor}
 
 -- the place of line i in a list of places
 abbrev pub listedPlace : List ℕ → ℕ → ℕ
@@ -45,3 +47,8 @@ pub record IsPackedRead (L : Layout) (p : Bytes) (list : List ℕ) (r : ℕ) (af
 pub record IsPackedWritten (L : Layout) (text : Bytes) (list : List ℕ) (count : ℕ) (k : Break) (dest : Bytes) (r : ℕ) (after : Bytes) : Type 0 where
   pub number : r ≡ packedLaying (writeAnswer L text list (toldCount count) k dest .answer)
   pub lent : after ≡ writeAnswer L text list (toldCount count) k dest .lent
+
+-- so of what a call is lent, at its entry and at its exit, with a break of CR LF or of LF
+abbrev pub IsPackedWrittenTo : Layout → (text list : Both (RefT (List ℕ)) (RefT (List ℕ))) → ℕ → Bool → (dest : Both (RefT Bytes) (RefT Bytes)) → ℕ → Type 0
+IsPackedWrittenTo L text list count crlf dest r =
+    IsPackedWritten L (now (text .entry)) (now (list .entry)) count (breakFor crlf) (now (dest .entry)) r (now (dest .exit))

@@ -19,7 +19,7 @@ use Rattle.joining.specs.Handing.{lineAt}
 use Rattle.joining.proofs.Handing.{outside-first, outside-none}
 use Rattle.pile.specs.declared.Piled.{Piled}
 use Rattle.pile.specs.declared.Piled.the-variants.{Done, Refused}
-use Rattle.pile.specs.Pile.{entry, entriesOf, entries, paperPiled, IsPiled}
+use Rattle.pile.specs.Pile.{billNumbers, numbersOf, pileNumbers, paperPiled, IsPiled}
 use Rattle.pile.proofs.Entries.{entry-length, entries-length, entry-next}
 use Rattle.pile.proofs.Stages.{all-placed, is-done}
 
@@ -40,34 +40,34 @@ refusal-changes-nothing h = rw (← h .answer) at (h .lent)
 
 module _ {ed : Edition} {buffer : Bytes} {places : List ℕ} {count : ℕ} {answers after : List ℕ} (h : IsPiled ed buffer places count answers Done after) where
   -- a pile that is done leaves the entries in the front
-  laid : after ≡ over answers (entries ed buffer places count)
+  laid : after ≡ over answers (pileNumbers ed buffer places count)
   laid = rw (← h .answer) at (h .lent)
 
   -- what lies behind the entries stays
   pub past-the-count-stays : drop (2 * count) after ≡ drop (2 * count) answers
   past-the-count-stays =
       let size = entries-length ed buffer places count in
-      rw (laid, drop-at (entries ed buffer places count) (drop (length (entries ed buffer places count)) answers) (2 * count) size, size)
+      rw (laid, drop-at (pileNumbers ed buffer places count) (drop (length (pileNumbers ed buffer places count)) answers) (2 * count) size, size)
 
   -- each bill's entry is that of its own verdict
-  pub own-entry : (i : ℕ) → i < count → take 2 (drop (2 * i) after) ≡ entry (verdict (swissIn ed) (lineAt buffer places i))
+  pub own-entry : (i : ℕ) → i < count → take 2 (drop (2 * i) after) ≡ billNumbers (verdict (swissIn ed) (lineAt buffer places i))
   own-entry i k =
-      let E = entries ed buffer places count in
+      let E = pileNumbers ed buffer places count in
       let v = verdict (swissIn ed) (lineAt buffer places i) in
-      rw (laid, drop-append-le (2 * i) E (drop (length E) answers) (omega (arith, entries-length ed buffer places count)), entry-next ed buffer places count i k, append-assoc (entry v)) (take-at (entry v) _ 2 (entry-length v))
+      rw (laid, drop-append-le (2 * i) E (drop (length E) answers) (omega (arith, entries-length ed buffer places count)), entry-next ed buffer places count i k, append-assoc (billNumbers v)) (take-at (billNumbers v) _ 2 (entry-length v))
 
   -- that is the reader's answer on the bill alone, for any list with room for its places
-  pub as-the-reader : (i : ℕ) → i < count → (list : List ℕ) → 102 ≤ length list → take 2 (drop (2 * i) after) ≡ entry (readAnswer (swissIn ed) (lineAt buffer places i) list .answer)
-  as-the-reader i k list room = own-entry i k ∙ ap entry (sym (answer-is-verdict (swissIn ed) (lineAt buffer places i) list room))
+  pub as-the-reader : (i : ℕ) → i < count → (list : List ℕ) → 102 ≤ length list → take 2 (drop (2 * i) after) ≡ billNumbers (readAnswer (swissIn ed) (lineAt buffer places i) list .answer)
+  as-the-reader i k list room = own-entry i k ∙ ap billNumbers (sym (answer-is-verdict (swissIn ed) (lineAt buffer places i) list room))
 
 -- an entry hangs on its own bill alone: whatever else two piles differ in, the same bill has the same entry
 pub neighbours-stay : {ed : Edition} {b c : Bytes} {p q : List ℕ} {count : ℕ} {answers₁ answers₂ after₁ after₂ : List ℕ} → IsPiled ed b p count answers₁ Done after₁ → IsPiled ed c q count answers₂ Done after₂
     → (j : ℕ) → j < count → lineAt b p j ≡ lineAt c q j → take 2 (drop (2 * j) after₁) ≡ take 2 (drop (2 * j) after₂)
-neighbours-stay {ed = ed} h k j few same = own-entry h j few ∙ ap (λ (l : Bytes). entry (verdict (swissIn ed) l)) same ∙ sym (own-entry k j few)
+neighbours-stay {ed = ed} h k j few same = own-entry h j few ∙ ap (λ (l : Bytes). billNumbers (verdict (swissIn ed) l)) same ∙ sym (own-entry k j few)
 
 -- a pile of no bills is done, and changes no number
 pub no-bills : (ed : Edition) (buffer : Bytes) (places answers : List ℕ) → IsPiled ed buffer places 0 answers Done answers
-unfolding entriesOf handed spans
+unfolding numbersOf handed spans
 no-bills ed buffer places answers =
     let inside = outside-first buffer places 0 ∙ outside-none buffer places 0 0 (omega arith) in
     is-done buffer places 0 answers ed (all-placed buffer places 0 (omega arith) (omega arith) refl (ap (λ o. Option·getD o 0) inside)) (omega arith) refl

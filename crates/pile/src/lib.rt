@@ -1,6 +1,7 @@
 // A morning's pile: bills that lie in one buffer, each judged, and an entry for each.
 use sieve::Answer;
 use sieve::Fault;
+use sieve::WALK_NUMBERS;
 use sieve::line_of;
 use sieve::number_of;
 use swiss::Edition;
@@ -12,7 +13,7 @@ ghost use Rattle.sieve.specs.Bytes.{over};
 ghost use Rattle.sieve.specs.Paper.{paper};
 ghost use Rattle.sieve.specs.Verdict.{first, verdict};
 ghost use Rattle.swiss.specs.Swiss.{swissIn};
-ghost use Rattle.pile.specs.Pile.{outsideAt, placeFindings, paperPiled, entry, Small, entries, Fillable, IsPiled};
+ghost use Rattle.pile.specs.Pile.{outsideAt, placeFindings, paperPiled, billNumbers, Small, handedEntries, Fillable, IsPiledTo};
 
 const MOST_BILLS: usize = 500;
 
@@ -59,7 +60,7 @@ pub fn gather_bills(buffer: &[u8], places: &[u32], count: usize) -> Piled
 // Puts a bill's answer into its own part of the list.
 fn lay_entry(part: &mut [u16], answer: Answer)
     requires { ⌜ (length (now part) ≡ 2) × Small (paper answer) ⌝ }
-    ensures { λ _. ⌜ now (part .exit) ≡ entry (paper answer) ⌝ }
+    ensures { λ _. ⌜ now (part .exit) ≡ billNumbers (paper answer) ⌝ }
 {
     match answer {
         Answer::Accepted(n, _) => {
@@ -76,9 +77,9 @@ fn lay_entry(part: &mut [u16], answer: Answer)
 // Judges a bill, and puts its answer into its own part of the list.
 fn judge_bill(bill: &[u8], edition: Edition, part: &mut [u16])
     requires { ⌜ length (now part) ≡ 2 ⌝ }
-    ensures { λ _. ⌜ now (part .exit) ≡ entry (verdict (swissIn edition) (now (bill .entry))) ⌝ }
+    ensures { λ _. ⌜ now (part .exit) ≡ billNumbers (verdict (swissIn edition) (now (bill .entry))) ⌝ }
 {
-    let mut lines = [0; 68];
+    let mut lines = [0; WALK_NUMBERS];
     let answer = judge_in(bill, &mut lines, edition);
     lay_entry(part, answer);
 }
@@ -86,9 +87,7 @@ fn judge_bill(bill: &[u8], edition: Edition, part: &mut [u16])
 // Judges bill after bill. One bill's answer says nothing about another's.
 fn judge_all(buffer: &[u8], places: &[u32], count: usize, edition: Edition, answers: &mut [u16])
     requires { ⌜ Fillable (now buffer) (now places) count (now answers) ⌝ }
-    ensures { λ _.
-        ⌜ now (answers .exit)
-        ≡ over (now (answers .entry)) (entries edition (now (buffer .entry)) (now (places .entry)) count) ⌝ }
+    ensures { λ _. ⌜ now (answers .exit) ≡ over (now (answers .entry)) (handedEntries edition buffer places count) ⌝ }
 {
     let mut i = 0;
     while i < count {
@@ -111,8 +110,7 @@ pub fn pile(
     edition: Edition,
     answers: &mut [u16],
 ) -> Piled
-    ensures { λ r.
-        ⌜ IsPiled edition (now (buffer .entry)) (now (places .entry)) count (now (answers .entry)) r (now (answers .exit)) ⌝ }
+    ensures { λ r. ⌜ IsPiledTo edition buffer places count answers r ⌝ }
 {
     match gather_bills(buffer, places, count) {
         Piled::Refused(fault) => Piled::Refused(fault),

@@ -1,15 +1,15 @@
 -- The list of places, line by line. Assumes nothing.
 use Prim.Native.Nat.{ℕ, zero, suc, _+_, _-_, _*_, _≤_, _<_}
-use native.Mathlib.Numerals.{add-one}
 use native.Mathlib.Omega.{arith}
 use mathlib.Core.List.{List, [], _∷_, _++_, append-nil, append-assoc}
 use mathlib.Core.Path.{_≡_, refl, sym, ap, _∙_}
-use lib.ListN.{length, take, drop, set, length-set, length-drop, length-append}
-use lib.Seq.{take-suc-set, drop-length, take-all}
+use lib.ListN.{length, take, drop, set, length-drop, length-append}
+use lib.Seq.{drop-length, take-all}
 use Rattle.sieve.specs.Bytes.{Bytes}
 use Rattle.sieve.specs.Lines.{breakBytes, cut}
 use Rattle.sieve.specs.Places.{entries}
 use Rattle.sieve.proofs.Cutting.{glued-cut}
+use Rattle.sieve.proofs.Setting.{two-more}
 use Rattle.text.specs.declared.LineAt.{LineAt}
 use Rattle.text.specs.Results.{IsLineAt}
 use Rattle.text.specs.LinesIn.{linesFrom, linesAt}
@@ -44,14 +44,6 @@ one-entry p n at r is h = go (onward p at r is)
     go (a-break k e f) =
         let q : at + length (cut (drop at p) .first) + length (breakBytes k) ≡ r .next = omega (arith, is .end) in
         rw (f, q, bytes)
-
--- two numbers more
-two-more : (l : List ℕ) (i a b : ℕ) → i + 1 < length l → take (i + 2) (set (set l i a) (i + 1) b) ≡ take i l ++ (a ∷ b ∷ [])
-two-more l i a b h =
-    let n : i + 2 ≡ suc (i + 1) = omega arith in
-    let e = take-suc-set (set l i a) (i + 1) b (rw length-set h) in
-    let f = take-suc-set l i a (omega arith) in
-    rw n (e ∙ rw (add-one, f) (append-assoc (take i l) (a ∷ []) (b ∷ [])))
 
 -- one line more is noted
 pub filled-more : (p : Bytes) (l : List ℕ) (at n : ℕ) (r : LineAt) → IsLineAt p at r → at ≤ length p → n < capacity → length l ≡ room → Filled p l at n

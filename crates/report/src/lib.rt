@@ -34,7 +34,7 @@ fn digit(n: usize) -> u8
     48 + n as u8
 }
 
-// The same of a number in decimal digits.
+// Lays a number in decimal digits behind the first `at` bytes of a line, and answers where it ends.
 fn add_number(line: &mut [u8], at: usize, n: usize) -> usize
     requires { ⌜ (n < 1000) × (at + 3 ≤ length (now line)) ⌝ }
     ensures { λ r. ⌜ r ≡ at + length (decimal n) ⌝ }
@@ -74,7 +74,8 @@ fn compose_accepted(line: &mut [u8], n: usize, k: Break) -> usize
     }
 }
 
-// The same of the place of the byte that a fault points at; nothing where it points at none.
+// Lays the place of the byte that a fault points at behind the first `at` bytes of a line, or nothing where it points at
+// none, and answers where it ends.
 fn add_place(line: &mut [u8], at: usize, fault: Fault) -> usize
     requires { ⌜ (Option·getD (paperFault fault .place) 0 < 1000) × (at + 9 ≤ length (now line)) ⌝ }
     ensures { λ r. ⌜ r ≤ at + 9 ⌝ }

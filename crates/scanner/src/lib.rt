@@ -32,7 +32,7 @@ pub fn hand_over(held: &mut [u8], length: usize, bit: &[u8]) -> usize
 
 // What has arrived so far: its bytes, in the front of the room. A length over 997 notes that there were too many.
 pub struct Scan {
-    pub bytes: [u8; 997],
+    pub bytes: [u8; Edition::MOST_BYTES],
     pub len: usize,
 }
 
@@ -42,7 +42,7 @@ impl Scan {
         ensures { λ r. ⌜ r ≡ fresh ⌝ }
     {
         Scan {
-            bytes: [0; 997],
+            bytes: [0; Edition::MOST_BYTES],
             len: 0,
         }
     }

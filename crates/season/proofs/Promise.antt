@@ -8,7 +8,6 @@ use mathlib.Core.Bool.{true, false}
 use mathlib.Core.List.{List, [], _∷_, _++_}
 use mathlib.Core.Option.{Option, some, none}
 use mathlib.Core.Path.{_≡_, refl, sym, ap, _∙_}
-use lib.Dec.{lit≤}
 use lib.ListN.{length, getD, take, drop}
 use lib.Seq.{take-at, drop-at, drop-drop, getD-drop}
 use borrow.Author.Tests.{ltb-false}
@@ -25,13 +24,13 @@ use Rattle.sieve.proofs.Accepts.{read-back}
 use Rattle.sieve.proofs.Alphabets.{among}
 use Rattle.sieve.proofs.Findings.{each-none, found-none}
 use Rattle.sieve.proofs.Firsts.{first-append}
-use Rattle.sieve.proofs.Latin.{lawful}
 use Rattle.sieve.proofs.PaperLosesNothing.{one-fault}
 use Rattle.sieve.proofs.ReaderPromises.{answer-is-verdict, accepted-reads}
 use Rattle.sieve.proofs.WriterPromises.{handed-length}
 use Rattle.swiss.specs.declared.Edition.the-variants.{V22, V24}
 use Rattle.swiss.specs.Limits.{francs, euros}
 use Rattle.swiss.specs.Swiss.{swissIn, swiss}
+use Rattle.swiss.proofs.Serves.{edition-serves}
 use Rattle.joining.specs.Handing.{lineAt}
 use Rattle.joining.proofs.Handing.{still, from-start, next-line}
 use Rattle.pile.specs.Pile.{mostBills, placeFindings, filledBy}
@@ -82,9 +81,9 @@ module _ (room : List ℕ) (enough : 102 ≤ length room) where
   lines-read : (p : Bytes) (n : ℕ) (k : Break) → readAnswer (swissIn V22) p room .answer ≡ accepted n k → handed p (innerOf (swissIn V22) n (readAnswer (swissIn V22) p room .lent)) n ≡ linesOf (cut p)
   unfolding billOf
   lines-read p n k h =
-      let reads = accepted-reads (swissIn V22) (λ ls. lawful) (lit≤ tt) p room enough n k h in
+      let reads = accepted-reads (edition-serves V22) p room enough n k h in
       let is = reads .is in
-      let bill : billOf p ≡ reads .bill = ap billOf (sym (is .writes)) ∙ read-back (swissIn V22) (λ ls. lawful) (lit≤ tt) (reads .bill) (is .keeps) in
+      let bill : billOf p ≡ reads .bill = ap billOf (sym (is .writes)) ∙ read-back (swissIn V22) (edition-serves V22 .lawful) (edition-serves V22 .two) (reads .bill) (is .keeps) in
       reads .cut-out ∙ ap (λ b. b .lines) (sym bill)
 
   cents-read : (currency : String) (p : Bytes) → adds currency p ≡ readCents room currency p

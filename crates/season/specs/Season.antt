@@ -6,6 +6,8 @@ use mathlib.Core.List.{List, [], _∷_, _++_}
 use mathlib.Core.Option.{Option, some, none}
 use mathlib.Core.Path.{_≡_}
 use lib.ListN.{length}
+use denote.Ref.{RefT, now}
+use denote.Triple.Both.{Both}
 use Rattle.sieve.specs.declared.Break.{Break}
 use Rattle.sieve.specs.Bytes.{Bytes, same}
 use Rattle.sieve.specs.Characters.{characters}
@@ -23,7 +25,7 @@ use Rattle.swiss.specs.Limits.{amountMost, francs, euros}
 use Rattle.swiss.specs.Swiss.{swissIn}
 use Rattle.places.specs.Listed.{listed}
 use Rattle.joining.specs.Handing.{Inside}
-use Rattle.pile.specs.Pile.{mostBills, entry, placeFindings, filledBy}
+use Rattle.pile.specs.Pile.{mostBills, billNumbers, placeFindings, filledBy}
 use Rattle.season.specs.declared.Tried.{Tried}
 use Rattle.season.specs.declared.Tried.the-variants.{Listed, Refused}
 use Rattle.season.specs.declared.Outcome.{Outcome}
@@ -40,9 +42,9 @@ total number (p ∷ ps) = number p + total number ps
 
 -- of two verdicts, number or line differs
 abbrev pub apart : Verdict → Verdict → Bool
-apart old new = not (same (entry old) (entry new))
+apart old new = not (same (billNumbers old) (billNumbers new))
 
--- so it is with a bill between 2.2 and 2.4
+-- of a bill number or line differs between 2.2 and 2.4
 unfoldable pub editionsDiffer : Bytes → Bool
 editionsDiffer p = apart (verdict (swissIn V22) p) (verdict (swissIn V24) p)
 
@@ -59,7 +61,7 @@ ifAccepted (refused r) amount = 0
 unfoldable pub adds : String → Bytes → ℕ
 adds currency p = ifAccepted (verdict (swissIn V22) p) (centsIn currency (linesOf (cut p)))
 
--- the same of single readings, each lent this list: what the reader answers under both editions, and the amount on the lines that the places of 2.2 cut out
+-- a bill whose number or line differs, and its amount in cents, by single readings, each lent this list: what the reader answers under both editions, and the amount on the lines that the places of 2.2 cut out
 
 abbrev pub readApart : List ℕ → Bytes → Bool
 readApart lent p = apart (readAnswer (swissIn V22) p lent .answer) (readAnswer (swissIn V24) p lent .answer)
@@ -119,6 +121,10 @@ pub record Triable (buffer : Bytes) (places : List ℕ) (count : ℕ) (list : Li
 pub record AreTried (ps : List Bytes) (list : List ℕ) (r : Tried) (after : List ℕ) : Type 0 where
   pub answer : paperTried r ≡ triedAll ps
   pub lent : after ≡ filledBy (differing ps) list none
+
+-- the bills that a call is lent, each the part of the buffer at its place
+abbrev pub handedBills : (buffer places : Both (RefT (List ℕ)) (RefT (List ℕ))) → ℕ → List Bytes
+handedBills buffer places count = handed (now (buffer .entry)) (now (places .entry)) count
 
 -- what line 19 of an accepted bill may be: empty or an amount, and short
 pub record AmountLine (s : Bytes) : Type 0 where

@@ -5,6 +5,7 @@ use pile::gather_bills;
 use places::line;
 use sieve::Answer;
 use sieve::Fault;
+use sieve::WALK_NUMBERS;
 use sieve::line_of;
 use sieve::number_of;
 use swiss::Edition;
@@ -14,11 +15,10 @@ ghost use mathlib.Core.Path.{_≡_};
 ghost use Prim.Native.Nat.{_+_, _<_};
 ghost use lib.ListN.{getD, length, set};
 ghost use Rattle.sieve.specs.Paper.{paper};
-ghost use Rattle.sieve.specs.Writing.{handed};
 ghost use Rattle.swiss.specs.Cents.{cents};
-ghost use Rattle.pile.specs.Pile.{entry};
+ghost use Rattle.pile.specs.Pile.{billNumbers};
 ghost use Rattle.season.specs.Season.{apart, editionsDiffer, AmountLine, AcceptedAt, IsOutcome};
-ghost use Rattle.season.specs.Season.{Triable, AreTried, IsTried};
+ghost use Rattle.season.specs.Season.{Triable, handedBills, AreTried, IsTried};
 
 // What is answered of a season.
 pub enum Tried {
@@ -36,7 +36,7 @@ struct Outcome {
 
 // A verdict's number, 0 where it accepts.
 fn number_in(answer: Answer) -> u32
-    ensures { λ r. ⌜ r ≡ getD (entry (paper answer)) 0 0 ⌝ }
+    ensures { λ r. ⌜ r ≡ getD (billNumbers (paper answer)) 0 0 ⌝ }
 {
     match answer {
         Answer::Accepted(_, _) => 0,
@@ -46,7 +46,7 @@ fn number_in(answer: Answer) -> u32
 
 // A verdict's line, the line count where it accepts.
 fn line_in(answer: Answer) -> usize
-    ensures { λ r. ⌜ r ≡ getD (entry (paper answer)) 1 0 ⌝ }
+    ensures { λ r. ⌜ r ≡ getD (billNumbers (paper answer)) 1 0 ⌝ }
 {
     match answer {
         Answer::Accepted(n, _) => n,
@@ -76,7 +76,7 @@ fn cents(amount: &[u8]) -> u64
 
 // What a bill that 2.2 accepts adds to the sums, by the places of its lines. Line 20 is then CHF or EUR, so that its
 // first letter tells which.
-fn paid(bill: &[u8], places: &[u16; 68], differs: bool) -> Outcome
+fn paid(bill: &[u8], places: &[u16; WALK_NUMBERS], differs: bool) -> Outcome
     requires { ⌜ AcceptedAt (now bill) (now places) ⌝ }
     ensures { λ r. ⌜ IsOutcome (now (bill .entry)) differs r ⌝ }
 {
@@ -98,7 +98,7 @@ fn paid(bill: &[u8], places: &[u16; 68], differs: bool) -> Outcome
 
 // Tries a bill under both editions. What 2.4 accepts, 2.2 accepts too, with the same lines: it is asked only of the
 // rest, and where it accepts one of those, the two differ. The places are room to work in, made once for all bills.
-fn try_bill(bill: &[u8], places: &mut [u16; 68]) -> Outcome
+fn try_bill(bill: &[u8], places: &mut [u16; WALK_NUMBERS]) -> Outcome
     ensures { λ r. ⌜ IsOutcome (now (bill .entry)) (editionsDiffer (now (bill .entry))) r ⌝ }
 {
     let new = judge_in(bill, places, Edition::V24);
@@ -134,15 +134,13 @@ fn list_position(list: &mut [u16], n: usize, position: u16, differs: bool) -> us
 // Tries bill after bill, in one pass. No sum of 500 bills comes near the end of 64 bits.
 fn try_all(buffer: &[u8], places: &[u32], count: usize, list: &mut [u16]) -> Tried
     requires { ⌜ Triable (now buffer) (now places) count (now list) ⌝ }
-    ensures { λ r.
-        ⌜ AreTried (handed (now (buffer .entry)) (now (places .entry)) count) (now (list .entry)) r
-        (now (list .exit)) ⌝ }
+    ensures { λ r. ⌜ AreTried (handedBills buffer places count) (now (list .entry)) r (now (list .exit)) ⌝ }
 {
     let mut n = 0;
     let mut francs: u64 = 0;
     let mut euros: u64 = 0;
     let mut i = 0;
-    let mut lines = [0; 68];
+    let mut lines = [0; WALK_NUMBERS];
     while i < count {
         let start = places[2 * i] as usize;
         let end = start + places[2 * i + 1] as usize;

@@ -1,6 +1,7 @@
 // The list that is shown of a bill: of each line where it lies and how many characters it has; filled for a reader, and
 // held against a writer's text.
 use runs::characters;
+use sieve::WALK_LINES;
 ghost use mathlib.Core.Path.{_≡_};
 ghost use Prim.Native.Nat.{_*_, _≤_};
 ghost use lib.ListN.{length, drop};
@@ -8,9 +9,6 @@ ghost use Rattle.sieve.specs.Bytes.{over};
 ghost use Rattle.sieve.specs.Characters.{characters};
 ghost use Rattle.sieve.specs.Places.{placesIn};
 ghost use Rattle.shown.specs.Shown.{Plain, PlainIf, Counts, Inside, withCounts, InsideThree, wrongAs, firstWrong};
-
-// How many lines the list has.
-pub const LINES: usize = 34;
 
 // How many characters a line has; where it is plain, as many as bytes.
 fn counted(line: &[u8], plain: bool) -> u16
@@ -54,7 +52,7 @@ fn fill_lines(payload: &[u8], places: &[u16], list: &mut [u16], plain: bool, tai
         ⌜ now (list .exit) ≡ over (now (list .entry)) (withCounts (now (payload .entry)) 34 (now (places .entry))) ⌝ }
 {
     let mut i = 0;
-    while i < LINES {
+    while i < WALK_LINES {
         let start = places[2 * i];
         let bytes = places[2 * i + 1];
         let from = start as usize;
@@ -89,7 +87,7 @@ pub fn places_in(list: &[u16], places: &mut [u16])
     ensures { λ _. ⌜ now (places .exit) ≡ placesIn 3 34 (now (list .entry)) ⌝ }
 {
     let mut i = 0;
-    while i < LINES {
+    while i < WALK_LINES {
         places[2 * i] = list[3 * i];
         places[2 * i + 1] = list[3 * i + 1];
         i += 1;

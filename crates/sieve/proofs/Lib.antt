@@ -7,6 +7,8 @@ pub mod Decimals
 pub mod Pairs
 pub mod Heads
 pub mod Likeness
+pub mod Setting
+pub mod Cases
 pub mod Latin
 pub mod Iso8859
 pub mod Charsets
@@ -33,4 +35,5 @@ pub mod SmallAnswers
 pub mod Pointing
 pub mod Together
 pub mod Room
+pub mod Promises
 pub mod OneAnswer

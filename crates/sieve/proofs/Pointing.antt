@@ -4,7 +4,7 @@ use native.Mathlib.Nat.{suc-ne-zero, zero-add}
 use native.Mathlib.Omega.{arith}
 use mathlib.Core.Bool.{Bool, true, not}
 use mathlib.Core.List.{List, [], _∷_, _++_, append-assoc, List·Memᴰ·not-nil}
-use mathlib.Core.Logic.{_≢_, _⊎_, inl, inr}
+use mathlib.Core.Logic.{_≢_, inl, inr}
 use mathlib.Core.Option.{Option, some, none, Option·map, Option·none-ne-some, Option·some-injective}
 use mathlib.Core.Path.{_≡_, refl, sym, ap, subst, _∙_}
 use lib.Dec.{ltb}
@@ -20,7 +20,7 @@ use Rattle.sieve.specs.Breaks.{Passed, Breaks, no-bytes, too-many-bytes,
 use Rattle.sieve.specs.Paper.{not-laid}
 use Rattle.sieve.specs.Lawful.{Clean}
 use Rattle.sieve.specs.Places.{placed, listSize, innerOf}
-use Rattle.sieve.specs.Pointing.{BeginsNeither, beforeBreaks, HoldsBreak}
+use Rattle.sieve.specs.Pointing.{BeginsNeither, beforeBreaks, HoldsBreak, PointsInto}
 use Rattle.sieve.specs.Writing.{outside, spans, handed, strayBreak, writeFindings, laidOnto, writeAnswer}
 use Rattle.sieve.proofs.Measuring.{mismeasured-found}
 use Rattle.sieve.proofs.Earliest.{refused-earliest}
@@ -188,9 +188,8 @@ module _ (L : Layout) (text : Bytes) (list : List ℕ) (count : ℕ) (k : Break)
   abbrev bytes : Bytes
   bytes = joined k ls
 
-  -- what the writer finds under 3: a CR or LF in a line, or else what the reader finds in the joined bytes
-  abbrev pub Points : Type 0
-  Points = HoldsBreak k ls i at ⊎ ((strayBreak 1 (placed 0 k ls) ≡ none) × BeginsNeither (L .width (linesOf (cut bytes))) bytes i at)
+  abbrev Points : Type 0
+  Points = PointsInto L k ls i at
 
   no-place : (b : Bool) (q j : ℕ) → found b (under q j) ≡ some (underAt 3 i at) → Points
   no-place b q j h = let (_, e) = found-some b _ _ h in absurd (Option·none-ne-some at (ap (λ (r : Refusal). r .place) e))
@@ -220,13 +219,13 @@ module _ (L : Layout) (text : Bytes) (list : List ℕ) (count : ℕ) (k : Break)
   found-points (suc (suc (suc (suc (suc (suc zero)))))) h before = no-place (ltb (length dest) (length bytes)) 15 0 h
   found-points (suc (suc (suc (suc (suc (suc (suc j))))))) h before = absurd (Option·none-ne-some _ h)
 
-  pub writer-points : writeAnswer L text list count k dest .answer ≡ not-laid (underAt 3 i at) → Points
+  pub writer-points : writeAnswer L text list count k dest .answer ≡ not-laid (underAt 3 i at) → PointsInto L k ls i at
   unfolding writeAnswer
   writer-points h =
       let f = first-at (writeFindings L text list count k (length dest)) (underAt 3 i at) (not-laid-finds bytes dest _ h) in
       found-points (f .at) (f .is) (f .before-all)
 
   -- either way the place lies in the joined bytes
-  pub in-joined : Points → at < length bytes
+  pub in-joined : PointsInto L k ls i at → at < length bytes
   in-joined (inl h) = h .inside
   in-joined (inr (_, b)) = b .inside

@@ -21,9 +21,11 @@ pub mod Reading
 pub mod Writing
 pub mod Pointing
 pub mod Lawful
+pub mod Serves
 pub mod Keeps
 pub mod Breaks
 pub mod Demand
+pub mod Promises
 pub mod Cases
 pub mod Examples
 pub mod OneAnswer

@@ -60,7 +60,7 @@ out-of-x : (x : ℕ) → inX x ≡ false → replaced false x ≡ true
 unfolding replaced
 out-of-x x e = rw e
 
-in-x-begins : (x : ℕ) → inX x ≡ true → within 0x80 0xBF x ≡ false
+pub in-x-begins : (x : ℕ) → inX x ≡ true → within 0x80 0xBF x ≡ false
 in-x-begins x e = go (within 0x80 0xBF x) refl
   where
     go : (b : Bool) → within 0x80 0xBF x ≡ b → b ≡ false

@@ -4,9 +4,13 @@ use mathlib.Core.List.{List, [], _∷_, _++_, map}
 use mathlib.Core.Option.{none}
 use mathlib.Core.Path.{_≡_}
 use lib.ListN.{length, getD, take}
+use denote.Ref.{RefT, now}
+use denote.Triple.Both.{Both}
 use Rattle.sieve.specs.declared.Break.the-variants.{CrLf}
 use Rattle.sieve.specs.Bytes.{Bytes}
+use Rattle.sieve.specs.Lines.{cut, linesOf}
 use Rattle.sieve.specs.Pointing.{beforeBreaks}
+use Rattle.sieve.specs.Rules.{line}
 use Rattle.sieve.specs.Verdict.{findings, first}
 use Rattle.swiss.specs.declared.Edition.{Edition}
 use Rattle.swiss.specs.Swiss.{swissIn}
@@ -16,8 +20,8 @@ use Rattle.swift.specs.declared.Line.{Line}
 use Rattle.swift.specs.declared.Page.{Page}
 use Rattle.swift.specs.declared.Row.{Row}
 use Rattle.swift.specs.Letters.{leads, laidLine}
-use Rattle.swift.specs.Portions.{lineMost, rows, Portion, keptIn, cutIn, replacedIn}
-use Rattle.swift.specs.Fields.{contents, countsOf}
+use Rattle.swift.specs.Portions.{lineMost, rows, Portion, onLines, keptIn, cutIn, replacedIn}
+use Rattle.swift.specs.Fields.{remittanceOf, contents, countsOf}
 use Rattle.swift.specs.Rowed.{Fillable, Holds, Lined}
 
 -- its counts are in bounds: a line takes at most 35 bytes and CR LF
@@ -84,6 +88,29 @@ pub record IsFollowed (buffer : Bytes) (page : Page) (n : ℕ) (qs : List Portio
   pub more : r .lines ≤ page .lines + n
   pub cut-few : r .cut ≤ page .cut + 8192 * n
   pub sheet : (ps : List Portion) → Sheet buffer page ps → Sheet after r (ps ++ qs)
+
+-- of what a call is lent, at its entry and at its exit
+
+-- on its buffer portions were laid behind what lay on the page
+abbrev pub IsLaidBehind : (buffer : Both (RefT Bytes) (RefT Bytes)) → Page → ℕ → List Portion → Page → Type 0
+IsLaidBehind buffer page n qs r = IsFollowed (now (buffer .entry)) page n qs (now (buffer .exit)) r
+
+-- those that a definition makes of a payload's lines
+abbrev pub IsFollowedBy : (buffer : Both (RefT Bytes) (RefT Bytes)) → Page → ℕ → (List Bytes → List Portion) → (payload : Both (RefT Bytes) (RefT Bytes)) → Page → Type 0
+IsFollowedBy buffer page n part payload r = IsLaidBehind buffer page n (part (linesOf (cut (now (payload .entry))))) r
+
+-- one line, of a text behind a prefix
+abbrev pub IsTextLaid : (buffer : Both (RefT Bytes) (RefT Bytes)) → Page → (prefix text : Both (RefT Bytes) (RefT Bytes)) → Page → Type 0
+IsTextLaid buffer page prefix text r = IsLaidBehind buffer page 1 (onLines 1 (now (prefix .entry) ++ now (text .entry)) ∷ []) r
+
+-- one line, of a payload's line n behind a prefix
+abbrev pub IsLineLaid : (buffer : Both (RefT Bytes) (RefT Bytes)) → Page → (prefix payload : Both (RefT Bytes) (RefT Bytes)) → ℕ → Page → Type 0
+IsLineLaid buffer page prefix payload n r = IsFollowedBy buffer page 1 (λ ls. onLines 1 (now (prefix .entry) ++ line n ls) ∷ []) payload r
+
+-- field 70, of a kind of reference, the reference and the message
+abbrev pub IsReferenceLaid : (buffer : Both (RefT Bytes) (RefT Bytes)) → Page → (kind reference message : Both (RefT Bytes) (RefT Bytes)) → Page → Type 0
+IsReferenceLaid buffer page kind reference message r =
+    IsLaidBehind buffer page 4 (remittanceOf (now (kind .entry)) (now (reference .entry)) (now (message .entry))) r
 
 -- field 70 with the message from row `first` on, 0 or 1, and the characters s before it
 abbrev pub remitted : ℕ → Bytes → Bytes → List Portion

@@ -50,6 +50,10 @@ pub record Small (line : Line) (most : ℕ) : Type 0 where
   pub fillable : Fillable (line .row)
   pub few : line .cut ≤ most
 
+-- a line for the characters of a text, and in bounds
+abbrev pub IsLineOf : Bytes → Line → ℕ → Type 0
+IsLineOf text line most = Small line most × Lined line (leads text)
+
 -- the characters of a text were put on a line
 pub record IsAdded (line : Line) (text : Bytes) (r : Line) : Type 0 where
   pub small : Small r (line .cut + length text)

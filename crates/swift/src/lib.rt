@@ -4,11 +4,12 @@ use runs::lay;
 use runs::same;
 use sieve::Answer;
 use sieve::Fault;
+use sieve::WALK_NUMBERS;
 use swiss::Edition;
 use swiss_judge::judge_in;
 ghost use mathlib.Core.Path.{_≡_};
 ghost use mathlib.Core.Bool.{true, not};
-ghost use mathlib.Core.List.{[], _∷_, _++_};
+ghost use mathlib.Core.List.{[], _++_};
 ghost use Prim.Native.Nat.{_+_, _≤_, _<_};
 ghost use lib.ListN.{length};
 ghost use Rattle.sieve.specs.Bytes.{within};
@@ -16,11 +17,12 @@ ghost use Rattle.sieve.specs.Lines.{cut, linesOf};
 ghost use Rattle.sieve.specs.Rules.{line};
 ghost use Rattle.swiss.specs.Forms.{amount};
 ghost use Rattle.swiss.specs.Swiss.{swissIn};
-ghost use Rattle.swift.specs.Letters.{inX, leads};
-ghost use Rattle.swift.specs.Portions.{onLines};
-ghost use Rattle.swift.specs.Rowed.{Fillable, IsFilled, IsBegun, Lined, IsAdded, Small, IsRows};
-ghost use Rattle.swift.specs.Paged.{Ready, IsLaid, IsPut, AllFillable, AreLaid, IsRemitted, Open, IsFollowed, Payable, AreMade};
-ghost use Rattle.swift.specs.Fields.{streetText, townText, streetLine, townLine, structuredLines, addressLines, combinedLines, beneficiary, withComma, transaction, remittanceOf, remittance};
+ghost use Rattle.swift.specs.Letters.{inX};
+ghost use Rattle.swift.specs.Rowed.{Fillable, IsFilled, IsBegun, Lined, IsLineOf, IsAdded, Small, IsRows};
+ghost use Rattle.swift.specs.Paged.{Ready, IsLaid, IsPut, AllFillable, AreLaid, IsRemitted, Open, Payable, AreMade};
+ghost use Rattle.swift.specs.Paged.{IsFollowedBy, IsTextLaid, IsLineLaid, IsReferenceLaid};
+ghost use Rattle.swift.specs.Fields.{streetText, townText, streetLine, townLine, structuredLines, addressLines};
+ghost use Rattle.swift.specs.Fields.{combinedLines, beneficiary, withComma, transaction, remittance};
 ghost use Rattle.swift.specs.Answering.{IsMapped, IsMappedBill};
 
 // What is told of the fields that were laid.
@@ -211,7 +213,7 @@ fn lay_line(buffer: &mut [u8], page: Page, line: Line) -> Page
 // A line with a text behind its prefix.
 fn prefixed_line(prefix: &[u8], text: &[u8]) -> Line
     requires { ⌜ (length (now prefix) ≤ 1024) × (length (now text) ≤ 1024) ⌝ }
-    ensures { λ r. ⌜ Small r 2048 × Lined r (leads (now (prefix .entry) ++ now (text .entry))) ⌝ }
+    ensures { λ r. ⌜ IsLineOf (now (prefix .entry) ++ now (text .entry)) r 2048 ⌝ }
 {
     let line = add(no_characters(), prefix);
     add(line, text)
@@ -220,7 +222,7 @@ fn prefixed_line(prefix: &[u8], text: &[u8]) -> Line
 // The line of street and number: a space joins them only if both are there; without either it has no characters.
 fn street_line(street: &[u8], number: &[u8]) -> Line
     requires { ⌜ (length (now street) ≤ 1024) × (length (now number) ≤ 1024) ⌝ }
-    ensures { λ r. ⌜ Small r 8192 × Lined r (leads (streetText (now (street .entry)) (now (number .entry)))) ⌝ }
+    ensures { λ r. ⌜ IsLineOf (streetText (now (street .entry)) (now (number .entry))) r 8192 ⌝ }
 {
     if number.len() == 0 {
         if street.len() == 0 {
@@ -239,8 +241,7 @@ fn street_line(street: &[u8], number: &[u8]) -> Line
 // The line of country, postcode and town.
 fn town_line(country: &[u8], postcode: &[u8], town: &[u8]) -> Line
     requires { ⌜ (length (now country) ≤ 1024) × (length (now postcode) ≤ 1024) × (length (now town) ≤ 1024) ⌝ }
-    ensures { λ r.
-        ⌜ Small r 8192 × Lined r (leads (townText (now (country .entry)) (now (postcode .entry)) (now (town .entry)))) ⌝ }
+    ensures { λ r. ⌜ IsLineOf (townText (now (country .entry)) (now (postcode .entry)) (now (town .entry))) r 8192 ⌝ }
 {
     let line = prefixed_line(b"3/", country);
     let line = add(line, b"/");
@@ -252,7 +253,7 @@ fn town_line(country: &[u8], postcode: &[u8], town: &[u8]) -> Line
 // The line of currency and amount, with a comma for the point.
 fn amount_line(currency: &[u8], paid: &[u8]) -> Line
     requires { ⌜ (length (now currency) ≤ 1024) × (length (now paid) ≤ 1024) × (amount (now paid) ≡ true) ⌝ }
-    ensures { λ r. ⌜ Small r 8192 × Lined r (leads (now (currency .entry) ++ withComma (now (paid .entry)))) ⌝ }
+    ensures { λ r. ⌜ IsLineOf (now (currency .entry) ++ withComma (now (paid .entry))) r 8192 ⌝ }
 {
     let n = paid.len();
     let point = n - 3;
@@ -339,9 +340,7 @@ fn lay_reference(
 ) -> Page
     requires { ⌜ Ready (now buffer) page × (page .lines ≤ 6) × (page .cut ≤ 73728) ⌝ }
     requires { ⌜ (length (now kind) ≤ 1024) × (length (now reference) ≤ 1024) × (length (now message) ≤ 1024) ⌝ }
-    ensures { λ r.
-        ⌜ IsFollowed (now (buffer .entry)) page 4 (remittanceOf (now (kind .entry)) (now (reference .entry)) (now (message .entry)))
-        (now (buffer .exit)) r ⌝ }
+    ensures { λ r. ⌜ IsReferenceLaid buffer page kind reference message r ⌝ }
 {
     if same(kind, b"NON") {
         return lay_remittance(buffer, page, no_characters(), 0, message);
@@ -354,9 +353,7 @@ fn lay_reference(
 // Lays a line with a text behind its prefix.
 fn lay_text(buffer: &mut [u8], page: Page, prefix: &[u8], text: &[u8]) -> Page
     requires { ⌜ Open (now buffer) page 1 × (length (now prefix) ≤ 1024) × (length (now text) ≤ 1024) ⌝ }
-    ensures { λ r.
-        ⌜ IsFollowed (now (buffer .entry)) page 1 (onLines 1 (now (prefix .entry) ++ now (text .entry)) ∷ [])
-        (now (buffer .exit)) r ⌝ }
+    ensures { λ r. ⌜ IsTextLaid buffer page prefix text r ⌝ }
 {
     let line = prefixed_line(prefix, text);
     lay_line(buffer, page, line)
@@ -367,24 +364,21 @@ fn lay_bill_line(
     buffer: &mut [u8],
     page: Page,
     payload: &[u8],
-    places: &[u16; 68],
+    places: &[u16; WALK_NUMBERS],
     n: usize,
     prefix: &[u8],
 ) -> Page
     requires { ⌜ Open (now buffer) page 1 × Payable (now payload) (now places) ⌝ }
     requires { ⌜ (1 ≤ n) × (n ≤ 34) × (length (now prefix) ≤ 1024) ⌝ }
-    ensures { λ r.
-        ⌜ IsFollowed (now (buffer .entry)) page 1 (onLines 1 (now (prefix .entry) ++ line n (linesOf (cut (now (payload .entry))))) ∷ [])
-        (now (buffer .exit)) r ⌝ }
+    ensures { λ r. ⌜ IsLineLaid buffer page prefix payload n r ⌝ }
 {
     lay_text(buffer, page, prefix, places::line(payload, places, n))
 }
 
 // Lays the line of its street and number.
-fn lay_street(buffer: &mut [u8], page: Page, payload: &[u8], places: &[u16; 68]) -> Page
+fn lay_street(buffer: &mut [u8], page: Page, payload: &[u8], places: &[u16; WALK_NUMBERS]) -> Page
     requires { ⌜ Open (now buffer) page 1 × Payable (now payload) (now places) ⌝ }
-    ensures { λ r.
-        ⌜ IsFollowed (now (buffer .entry)) page 1 (streetLine (linesOf (cut (now (payload .entry))))) (now (buffer .exit)) r ⌝ }
+    ensures { λ r. ⌜ IsFollowedBy buffer page 1 streetLine payload r ⌝ }
 {
     let street = places::line(payload, places, 7);
     let number = places::line(payload, places, 8);
@@ -393,10 +387,9 @@ fn lay_street(buffer: &mut [u8], page: Page, payload: &[u8], places: &[u16; 68])
 }
 
 // Lays the line of its country, postcode and town.
-fn lay_town(buffer: &mut [u8], page: Page, payload: &[u8], places: &[u16; 68]) -> Page
+fn lay_town(buffer: &mut [u8], page: Page, payload: &[u8], places: &[u16; WALK_NUMBERS]) -> Page
     requires { ⌜ Open (now buffer) page 1 × Payable (now payload) (now places) ⌝ }
-    ensures { λ r.
-        ⌜ IsFollowed (now (buffer .entry)) page 1 (townLine (linesOf (cut (now (payload .entry))))) (now (buffer .exit)) r ⌝ }
+    ensures { λ r. ⌜ IsFollowedBy buffer page 1 townLine payload r ⌝ }
 {
     let country = places::line(payload, places, 11);
     let postcode = places::line(payload, places, 9);
@@ -406,10 +399,14 @@ fn lay_town(buffer: &mut [u8], page: Page, payload: &[u8], places: &[u16; 68]) -
 }
 
 // Lays what follows the account in field 59a, of an address of type S: name, street and number, town.
-fn lay_structured(buffer: &mut [u8], page: Page, payload: &[u8], places: &[u16; 68]) -> Page
+fn lay_structured(
+    buffer: &mut [u8],
+    page: Page,
+    payload: &[u8],
+    places: &[u16; WALK_NUMBERS],
+) -> Page
     requires { ⌜ Open (now buffer) page 3 × Payable (now payload) (now places) ⌝ }
-    ensures { λ r.
-        ⌜ IsFollowed (now (buffer .entry)) page 3 (structuredLines (linesOf (cut (now (payload .entry))))) (now (buffer .exit)) r ⌝ }
+    ensures { λ r. ⌜ IsFollowedBy buffer page 3 structuredLines payload r ⌝ }
 {
     let named = lay_bill_line(buffer, page, payload, places, 6, b"1/");
     let housed = lay_street(buffer, named, payload, places);
@@ -417,20 +414,23 @@ fn lay_structured(buffer: &mut [u8], page: Page, payload: &[u8], places: &[u16; 
 }
 
 // Lays the two address lines of an address of type K.
-fn lay_address_lines(buffer: &mut [u8], page: Page, payload: &[u8], places: &[u16; 68]) -> Page
+fn lay_address_lines(
+    buffer: &mut [u8],
+    page: Page,
+    payload: &[u8],
+    places: &[u16; WALK_NUMBERS],
+) -> Page
     requires { ⌜ Open (now buffer) page 2 × Payable (now payload) (now places) ⌝ }
-    ensures { λ r.
-        ⌜ IsFollowed (now (buffer .entry)) page 2 (addressLines (linesOf (cut (now (payload .entry))))) (now (buffer .exit)) r ⌝ }
+    ensures { λ r. ⌜ IsFollowedBy buffer page 2 addressLines payload r ⌝ }
 {
     let first = lay_bill_line(buffer, page, payload, places, 7, b"");
     lay_bill_line(buffer, first, payload, places, 8, b"")
 }
 
 // Lays what follows the account in field 59a, of an address of type K: name, address lines, country.
-fn lay_combined(buffer: &mut [u8], page: Page, payload: &[u8], places: &[u16; 68]) -> Page
+fn lay_combined(buffer: &mut [u8], page: Page, payload: &[u8], places: &[u16; WALK_NUMBERS]) -> Page
     requires { ⌜ Open (now buffer) page 4 × Payable (now payload) (now places) ⌝ }
-    ensures { λ r.
-        ⌜ IsFollowed (now (buffer .entry)) page 4 (combinedLines (linesOf (cut (now (payload .entry))))) (now (buffer .exit)) r ⌝ }
+    ensures { λ r. ⌜ IsFollowedBy buffer page 4 combinedLines payload r ⌝ }
 {
     let named = lay_bill_line(buffer, page, payload, places, 6, b"");
     let housed = lay_address_lines(buffer, named, payload, places);
@@ -438,10 +438,14 @@ fn lay_combined(buffer: &mut [u8], page: Page, payload: &[u8], places: &[u16; 68
 }
 
 // Lays field 59a of an accepted bill: its account, and what follows for the type of its address.
-fn lay_beneficiary(buffer: &mut [u8], page: Page, payload: &[u8], places: &[u16; 68]) -> Page
+fn lay_beneficiary(
+    buffer: &mut [u8],
+    page: Page,
+    payload: &[u8],
+    places: &[u16; WALK_NUMBERS],
+) -> Page
     requires { ⌜ Open (now buffer) page 5 × Payable (now payload) (now places) ⌝ }
-    ensures { λ r.
-        ⌜ IsFollowed (now (buffer .entry)) page 5 (beneficiary (linesOf (cut (now (payload .entry))))) (now (buffer .exit)) r ⌝ }
+    ensures { λ r. ⌜ IsFollowedBy buffer page 5 beneficiary payload r ⌝ }
 {
     let paid = lay_bill_line(buffer, page, payload, places, 4, b"/");
     let kind = places::line(payload, places, 5);
@@ -452,11 +456,15 @@ fn lay_beneficiary(buffer: &mut [u8], page: Page, payload: &[u8], places: &[u16;
 }
 
 // Lays field 32B of an accepted bill that has an amount.
-fn lay_transaction(buffer: &mut [u8], page: Page, payload: &[u8], places: &[u16; 68]) -> Page
+fn lay_transaction(
+    buffer: &mut [u8],
+    page: Page,
+    payload: &[u8],
+    places: &[u16; WALK_NUMBERS],
+) -> Page
     requires { ⌜ Open (now buffer) page 1 × Payable (now payload) (now places) ⌝ }
     requires { ⌜ amount (line 19 (linesOf (cut (now payload)))) ≡ true ⌝ }
-    ensures { λ r.
-        ⌜ IsFollowed (now (buffer .entry)) page 1 (transaction (linesOf (cut (now (payload .entry))))) (now (buffer .exit)) r ⌝ }
+    ensures { λ r. ⌜ IsFollowedBy buffer page 1 transaction payload r ⌝ }
 {
     let currency = places::line(payload, places, 20);
     let paid = places::line(payload, places, 19);
@@ -465,10 +473,14 @@ fn lay_transaction(buffer: &mut [u8], page: Page, payload: &[u8], places: &[u16;
 }
 
 // Lays field 70 of an accepted bill.
-fn lay_information(buffer: &mut [u8], page: Page, payload: &[u8], places: &[u16; 68]) -> Page
+fn lay_information(
+    buffer: &mut [u8],
+    page: Page,
+    payload: &[u8],
+    places: &[u16; WALK_NUMBERS],
+) -> Page
     requires { ⌜ Open (now buffer) page 4 × Payable (now payload) (now places) ⌝ }
-    ensures { λ r.
-        ⌜ IsFollowed (now (buffer .entry)) page 4 (remittance (linesOf (cut (now (payload .entry))))) (now (buffer .exit)) r ⌝ }
+    ensures { λ r. ⌜ IsFollowedBy buffer page 4 remittance payload r ⌝ }
 {
     let kind = places::line(payload, places, 28);
     let reference = places::line(payload, places, 29);
@@ -477,7 +489,7 @@ fn lay_information(buffer: &mut [u8], page: Page, payload: &[u8], places: &[u16;
 }
 
 // Lays all three fields of an accepted bill that has an amount, in the front of a buffer for ten lines, and counts.
-fn lay_fields(buffer: &mut [u8], payload: &[u8], places: &[u16; 68]) -> Counts
+fn lay_fields(buffer: &mut [u8], payload: &[u8], places: &[u16; WALK_NUMBERS]) -> Counts
     requires { ⌜ (length (now buffer) ≡ 370) × Payable (now payload) (now places) ⌝ }
     requires { ⌜ amount (line 19 (linesOf (cut (now payload)))) ≡ true ⌝ }
     ensures { λ r. ⌜ AreMade (linesOf (cut (now (payload .entry)))) (now (buffer .exit)) r ⌝ }
@@ -503,7 +515,7 @@ fn lay_fields(buffer: &mut [u8], payload: &[u8], places: &[u16; 68]) -> Counts
 
 // Lays the fields of an accepted bill, made in a buffer of their own, in the front of the destination: it must have an
 // amount, and the destination room.
-fn map_bill(payload: &[u8], places: &[u16; 68], dest: &mut [u8]) -> Mapped
+fn map_bill(payload: &[u8], places: &[u16; WALK_NUMBERS], dest: &mut [u8]) -> Mapped
     requires { ⌜ Payable (now payload) (now places) ⌝ }
     ensures { λ r. ⌜ IsMappedBill (now (payload .entry)) (now (dest .entry)) r (now (dest .exit)) ⌝ }
 {
@@ -526,7 +538,7 @@ fn map_bill(payload: &[u8], places: &[u16; 68], dest: &mut [u8]) -> Mapped
 pub fn fields(payload: &[u8], edition: Edition, dest: &mut [u8]) -> Mapped
     ensures { λ r. ⌜ IsMapped (swissIn edition) (now (payload .entry)) (now (dest .entry)) r (now (dest .exit)) ⌝ }
 {
-    let mut places = [0; 68];
+    let mut places = [0; WALK_NUMBERS];
     match judge_in(payload, &mut places, edition) {
         Answer::Refused(f) => Mapped::Refused(f),
         Answer::Accepted(_, _) => map_bill(payload, &places, dest),

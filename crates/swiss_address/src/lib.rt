@@ -8,6 +8,7 @@ use findings::filled;
 use findings::formed;
 use places::line;
 use runs::same;
+use sieve::WALK_NUMBERS;
 use swiss::Edition;
 ghost use mathlib.Core.List.{_++_};
 ghost use mathlib.Core.Path.{_≡_};
@@ -26,7 +27,7 @@ pub fn text(l: &[u8], n: usize, when: bool, most: usize) -> Finding
 }
 
 // The first four lines of an address that is there, from line n on: type, name, street, house number.
-fn addressee(payload: &[u8], places: &[u16; 68], n: usize) -> Finding
+fn addressee(payload: &[u8], places: &[u16; WALK_NUMBERS], n: usize) -> Finding
     requires { ⌜ SevenFrom (now payload) (now places) n ⌝ }
     ensures { λ r. ⌜ r ≡ finds (addressee n) (linesOf (cut (now (payload .entry)))) ⌝ }
 {
@@ -66,7 +67,7 @@ fn addressee(payload: &[u8], places: &[u16; 68], n: usize) -> Finding
 }
 
 // The other three: postcode, town, country.
-fn locality(payload: &[u8], places: &[u16; 68], n: usize) -> Finding
+fn locality(payload: &[u8], places: &[u16; WALK_NUMBERS], n: usize) -> Finding
     requires { ⌜ SevenFrom (now payload) (now places) n ⌝ }
     ensures { λ r. ⌜ r ≡ finds (locality n) (linesOf (cut (now (payload .entry)))) ⌝ }
 {
@@ -97,7 +98,7 @@ fn locality(payload: &[u8], places: &[u16; 68], n: usize) -> Finding
 }
 
 // An address of type K behind its type, from line n on: name and two address lines.
-fn address_lines(payload: &[u8], places: &[u16; 68], n: usize) -> Finding
+fn address_lines(payload: &[u8], places: &[u16; WALK_NUMBERS], n: usize) -> Finding
     requires { ⌜ SevenFrom (now payload) (now places) n ⌝ }
     ensures { λ r. ⌜ r ≡ finds (addressLines n) (linesOf (cut (now (payload .entry)))) ⌝ }
 {
@@ -127,7 +128,7 @@ fn address_lines(payload: &[u8], places: &[u16; 68], n: usize) -> Finding
 }
 
 // The other three lines of type K: no postcode, no town, country.
-fn country_alone(payload: &[u8], places: &[u16; 68], n: usize) -> Finding
+fn country_alone(payload: &[u8], places: &[u16; WALK_NUMBERS], n: usize) -> Finding
     requires { ⌜ SevenFrom (now payload) (now places) n ⌝ }
     ensures { λ r. ⌜ r ≡ finds (countryAlone n) (linesOf (cut (now (payload .entry)))) ⌝ }
 {
@@ -148,7 +149,7 @@ fn country_alone(payload: &[u8], places: &[u16; 68], n: usize) -> Finding
 }
 
 // An address of type K, from line n on.
-fn combined(payload: &[u8], places: &[u16; 68], n: usize) -> Finding
+fn combined(payload: &[u8], places: &[u16; WALK_NUMBERS], n: usize) -> Finding
     requires { ⌜ SevenFrom (now payload) (now places) n ⌝ }
     ensures { λ r. ⌜ r ≡ finds (addressLines n ++ countryAlone n) (linesOf (cut (now (payload .entry)))) ⌝ }
 {
@@ -160,7 +161,7 @@ fn combined(payload: &[u8], places: &[u16; 68], n: usize) -> Finding
 }
 
 // Seven lines from line n on that must be empty.
-pub fn vacant(payload: &[u8], places: &[u16; 68], n: usize) -> Finding
+pub fn vacant(payload: &[u8], places: &[u16; WALK_NUMBERS], n: usize) -> Finding
     requires { ⌜ SevenFrom (now payload) (now places) n ⌝ }
     ensures { λ r. ⌜ r ≡ finds (vacant n) (linesOf (cut (now (payload .entry)))) ⌝ }
 {
@@ -176,7 +177,7 @@ pub fn vacant(payload: &[u8], places: &[u16; 68], n: usize) -> Finding
 }
 
 // The seven lines of an address as edition 2.4 has them, of type S, from line n on.
-fn structured(payload: &[u8], places: &[u16; 68], n: usize, optional: bool) -> Finding
+fn structured(payload: &[u8], places: &[u16; WALK_NUMBERS], n: usize, optional: bool) -> Finding
     requires { ⌜ SevenFrom (now payload) (now places) n ⌝ }
     ensures { λ r. ⌜ r ≡ finds (address V24 n (absentIf optional n)) (linesOf (cut (now (payload .entry)))) ⌝ }
 {
@@ -194,7 +195,7 @@ fn structured(payload: &[u8], places: &[u16; 68], n: usize, optional: bool) -> F
 // The seven lines of an address, from line n on. Most are of type S: K is asked for only where S's rules are broken.
 pub fn address(
     payload: &[u8],
-    places: &[u16; 68],
+    places: &[u16; WALK_NUMBERS],
     n: usize,
     optional: bool,
     edition: Edition,

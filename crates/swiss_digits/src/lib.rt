@@ -4,6 +4,7 @@ use digits::decimal;
 use runs::Kind;
 use runs::every;
 use runs::same;
+use swiss::Edition;
 ghost use mathlib.Core.Path.{_≡_};
 ghost use Rattle.swiss_digits.specs.Digits.{countryLetters, ibanOfDigits, scorOfDigits};
 
@@ -11,11 +12,11 @@ ghost use Rattle.swiss_digits.specs.Digits.{countryLetters, ibanOfDigits
 fn country_letters(c: &[u8]) -> u64
     ensures { λ r. ⌜ r ≡ countryLetters (now (c .entry)) ⌝ }
 {
-    if same(c, b"CH") {
-        return 1217;
+    if same(c, &Edition::SWITZERLAND) {
+        return Edition::SWITZERLAND_LETTERS;
     }
-    if same(c, b"LI") {
-        return 2118;
+    if same(c, &Edition::LIECHTENSTEIN) {
+        return Edition::LIECHTENSTEIN_LETTERS;
     }
     0
 }
@@ -25,7 +26,7 @@ fn country_letters(c: &[u8]) -> u64
 pub fn iban_right(s: &[u8]) -> bool
     ensures { λ r. ⌜ r ≡ ibanOfDigits (now (s .entry)) ⌝ }
 {
-    if s.len() != 21 {
+    if s.len() != Edition::IBAN_LENGTH {
         return false;
     }
     let letters = country_letters(&s[0..2]);
@@ -40,19 +41,19 @@ pub fn iban_right(s: &[u8]) -> bool
     false
 }
 
-// The same of a creditor reference: RF, which stands for 2715, and digits alone behind it, with right check digits.
+// RF and digits alone behind it, with right check digits: a creditor reference as most have it.
 pub fn scor_right(s: &[u8]) -> bool
     ensures { λ r. ⌜ r ≡ scorOfDigits (now (s .entry)) ⌝ }
 {
-    if s.len() < 5 {
+    if s.len() < Edition::SCOR_FEWEST {
         return false;
     }
     if 22 < s.len() {
         return false;
     }
-    if same(&s[0..2], b"RF") {
+    if same(&s[0..2], &Edition::CREDITOR_MARK) {
         if every(Kind::Digit, &s[2..]) {
-            return checks97_with(s, 2715, decimal(&s[4..]));
+            return checks97_with(s, Edition::CREDITOR_MARK_LETTERS, decimal(&s[4..]));
         }
     }
     false

@@ -3,6 +3,7 @@ use findings::fault_of;
 use places::clear;
 use sieve::Answer;
 use sieve::Charset;
+use sieve::WALK_NUMBERS;
 use swiss::Edition;
 use swiss_rules::rules;
 use whole::whole;
@@ -14,7 +15,7 @@ ghost use Rattle.whole.specs.Judged.{IsJudged};
 
 // The verdict of an edition on any bytes, with the places of an accepted payload's lines in the list; of a refused one it
 // holds none.
-pub fn judge_in(payload: &[u8], places: &mut [u16; 68], edition: Edition) -> Answer
+pub fn judge_in(payload: &[u8], places: &mut [u16; WALK_NUMBERS], edition: Edition) -> Answer
     ensures { λ r. ⌜ IsJudged (swissIn edition) (now (payload .entry)) r (now (places .exit)) ⌝ }
 {
     match whole(payload, Edition::LIMITS, Charset::Latin, places) {
@@ -34,12 +35,12 @@ pub fn judge_in(payload: &[u8], places: &mut [u16; 68], edition: Edition) -> Ans
 pub fn verdict_in(payload: &[u8], edition: Edition) -> Answer
     ensures { λ r. ⌜ paper r ≡ verdict (swissIn edition) (now (payload .entry)) ⌝ }
 {
-    let mut places = [0; 68];
+    let mut places = [0; WALK_NUMBERS];
     judge_in(payload, &mut places, edition)
 }
 
 // The same of edition 2.4.
-pub fn judge(payload: &[u8], places: &mut [u16; 68]) -> Answer
+pub fn judge(payload: &[u8], places: &mut [u16; WALK_NUMBERS]) -> Answer
     ensures { λ r. ⌜ IsJudged swiss (now (payload .entry)) r (now (places .exit)) ⌝ }
 {
     judge_in(payload, places, Edition::V24)

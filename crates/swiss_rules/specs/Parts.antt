@@ -3,6 +3,8 @@ use Prim.Native.Nat.{ℕ}
 use mathlib.Core.Bool.{Bool, _&&_, not}
 use mathlib.Core.List.{List, [], _∷_, flatten}
 use mathlib.Core.Option.{none}
+use denote.Ref.{RefT, now}
+use denote.Triple.Both.{Both}
 use Rattle.sieve.specs.Bytes.{Bytes}
 use Rattle.sieve.specs.Kinds.{filled, formed, checked}
 use Rattle.sieve.specs.Rules.{Rule, noText, isEmpty, has, always, never}
@@ -18,6 +20,10 @@ numberFound l n form check = after (after (after (small none) (noText l) 8 n) (n
 -- the reference on line 29, of a form and with check digits
 abbrev pub referenceOf : (Bytes → Bool) → (Bytes → Bool) → List Rule
 referenceOf form check = filled 29 always ∷ formed 29 (has 29 form) ∷ checked 29 (has 29 check) ∷ []
+
+-- lines 30 to 32, of what a call is lent
+abbrev pub informationLines : (message trailer billing : Both (RefT Bytes) (RefT Bytes)) → List Bytes
+informationLines message trailer billing = now (message .entry) ∷ now (trailer .entry) ∷ now (billing .entry) ∷ []
 
 -- lines 1 to 11
 unfoldable pub front : Edition → List Rule

@@ -14,6 +14,7 @@ use mod10::checks10;
 use places::line;
 use runs::longer_together;
 use runs::same;
+use sieve::WALK_NUMBERS;
 use swiss::Edition;
 use swiss_address::address;
 use swiss_address::text;
@@ -27,7 +28,7 @@ ghost use Rattle.swiss.specs.Forms.{qrr, scor};
 ghost use Rattle.swiss.specs.Swiss.{header, account, payment, reference, information, paired, pairing, together, rules};
 ghost use Rattle.findings.specs.Findings.{finds, from};
 ghost use Rattle.places.specs.Listed.{listed, Counted};
-ghost use Rattle.swiss_rules.specs.Parts.{numberFound, referenceOf, front, middle, back};
+ghost use Rattle.swiss_rules.specs.Parts.{numberFound, referenceOf, informationLines, front, middle, back};
 
 // Lines 1 to 3.
 pub fn header(kind: &[u8], version: &[u8], coding: &[u8]) -> Finding
@@ -116,8 +117,7 @@ fn reference(kind: &[u8], l: &[u8]) -> Finding
 
 // Lines 30 to 32.
 fn information(message: &[u8], trailer: &[u8], billing: &[u8]) -> Finding
-    ensures { λ r.
-        ⌜ r ≡ finds information (from 30 (now (message .entry) ∷ now (trailer .entry) ∷ now (billing .entry) ∷ [])) ⌝ }
+    ensures { λ r. ⌜ r ≡ finds information (from 30 (informationLines message trailer billing)) ⌝ }
 {
     let f = at_most(KEPT, message, 30, Edition::MESSAGE_MOST);
     if f.number != 0 {
@@ -147,7 +147,7 @@ fn paired(account: &[u8], currency: &[u8], kind: &[u8], edition: Edition) -> boo
 }
 
 // Lines that go together.
-fn together(payload: &[u8], places: &[u16; 68], edition: Edition) -> Finding
+fn together(payload: &[u8], places: &[u16; WALK_NUMBERS], edition: Edition) -> Finding
     requires { ⌜ now places ≡ listed (now payload) ⌝ }
     ensures { λ r. ⌜ r ≡ finds (pairing edition ∷ together ∷ []) (linesOf (cut (now (payload .entry)))) ⌝ }
 {
@@ -168,7 +168,7 @@ fn together(payload: &[u8], places: &[u16; 68], edition: Edition) -> Finding
 }
 
 // Lines 1 to 11.
-fn front(payload: &[u8], places: &[u16; 68], edition: Edition) -> Finding
+fn front(payload: &[u8], places: &[u16; WALK_NUMBERS], edition: Edition) -> Finding
     requires { ⌜ now places ≡ listed (now payload) ⌝ }
     ensures { λ r. ⌜ r ≡ finds (front edition) (linesOf (cut (now (payload .entry)))) ⌝ }
 {
@@ -188,7 +188,7 @@ fn front(payload: &[u8], places: &[u16; 68], edition: Edition) -> Finding
 }
 
 // Lines 12 to 27.
-fn middle(payload: &[u8], places: &[u16; 68], edition: Edition) -> Finding
+fn middle(payload: &[u8], places: &[u16; WALK_NUMBERS], edition: Edition) -> Finding
     requires { ⌜ now places ≡ listed (now payload) ⌝ }
     ensures { λ r. ⌜ r ≡ finds (middle edition) (linesOf (cut (now (payload .entry)))) ⌝ }
 {
@@ -204,7 +204,7 @@ fn middle(payload: &[u8], places: &[u16; 68], edition: Edition) -> Finding
 }
 
 // Lines 28 to 34, of a bill of so many lines, and those that go together.
-fn back(payload: &[u8], places: &[u16; 68], count: usize, edition: Edition) -> Finding
+fn back(payload: &[u8], places: &[u16; WALK_NUMBERS], count: usize, edition: Edition) -> Finding
     requires { ⌜ Counted (now payload) (now places) count ⌝ }
     ensures { λ r. ⌜ r ≡ finds (back edition) (linesOf (cut (now (payload .entry)))) ⌝ }
 {
@@ -242,7 +242,12 @@ fn back(payload: &[u8], places: &[u16; 68], count: usize, edition: Edition) -> F
 }
 
 // All rules about lines of an edition, in the order of the sieve.
-pub fn rules(payload: &[u8], places: &[u16; 68], count: usize, edition: Edition) -> Finding
+pub fn rules(
+    payload: &[u8],
+    places: &[u16; WALK_NUMBERS],
+    count: usize,
+    edition: Edition,
+) -> Finding
     requires { ⌜ Counted (now payload) (now places) count ⌝ }
     ensures { λ r. ⌜ r ≡ finds (rules edition) (linesOf (cut (now (payload .entry)))) ⌝ }
 {

@@ -7,6 +7,7 @@ use sieve::Answer;
 use sieve::Charset;
 use sieve::Fault;
 use sieve::Limits;
+use sieve::WALK_NUMBERS;
 ghost use mathlib.Core.Path.{_≡_};
 ghost use lib.ListN.{replicate};
 ghost use Rattle.sieve.specs.Charsets.{ofSet};
@@ -15,7 +16,7 @@ ghost use Rattle.places.specs.Listed.{room};
 ghost use Rattle.whole.specs.Judged.{IsJudged, IsParted};
 
 // A refusal leaves no places in the list.
-fn refuse(places: &mut [u16; 68], fault: Fault) -> Answer
+fn refuse(places: &mut [u16; WALK_NUMBERS], fault: Fault) -> Answer
     ensures { λ r. ⌜ r ≡ Answer.Refused fault ⌝ }
     ensures { λ _. ⌜ now (places .exit) ≡ replicate room 0 ⌝ }
 {
@@ -29,7 +30,7 @@ fn judge_breaks(
     parted: Parted,
     limits: Limits,
     set: Charset,
-    places: &mut [u16; 68],
+    places: &mut [u16; WALK_NUMBERS],
 ) -> Answer
     requires { ⌜ IsParted (plain limits (ofSet set)) (now payload) parted (now places) ⌝ }
     ensures { λ r. ⌜ IsJudged (plain limits (ofSet set)) (now (payload .entry)) r (now (places .exit)) ⌝ }
@@ -47,7 +48,12 @@ fn judge_breaks(
 }
 
 // What rules 1 to 5 say of any bytes, with the places of the lines of what they accept.
-pub fn whole(payload: &[u8], limits: Limits, set: Charset, places: &mut [u16; 68]) -> Answer
+pub fn whole(
+    payload: &[u8],
+    limits: Limits,
+    set: Charset,
+    places: &mut [u16; WALK_NUMBERS],
+) -> Answer
     ensures { λ r. ⌜ IsJudged (plain limits (ofSet set)) (now (payload .entry)) r (now (places .exit)) ⌝ }
 {
     if payload.len() == 0 {

@@ -5,7 +5,7 @@ use Rattle.swiss.specs.Swiss.{swiss}
 use Rattle.whole.proofs.Judging.{judged-length}
 use Rattle.packing.proofs.Calls.{line-packed}
 use borrow.Author.Needs.{needs}
-use Rattle.capi.proofs.Packs.{packs}
+use Rattle.swiss.proofs.Serves.{swiss-serves}
 use Rattle.capi.proofs.qrbill_line.Statement.{statement}
 use Rattle.capi.proofs.qrbill_line.Tie as tie
 
@@ -20,7 +20,7 @@ packed-line-requires c κs = record { numbers = judged-length (c .before .judge 
 
 returns : tie.Need-returns
 unfolding swiss
-returns c = c .packed-line .ensures ∙ line-packed packs (c .before .before .judge .ensures) _
+returns c = c .packed-line .ensures ∙ line-packed swiss-serves (c .before .before .judge .ensures) _
 
 pub qrbill-line-spec : {M : Type 1} → statement M
 qrbill-line-spec =

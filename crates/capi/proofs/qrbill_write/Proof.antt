@@ -1,8 +1,8 @@
--- `capi::qrbill_write` meets its contract: what the writer answers packs. Assumes nothing.
+-- `capi::qrbill_write` meets its contract: what the writer answers swiss-serves. Assumes nothing.
 use Rattle.packing.proofs.Calls.{written-packed, writing-packs}
 use Rattle.swiss.specs.Swiss.{swiss}
 use borrow.Author.Needs.{needs}
-use Rattle.capi.proofs.Packs.{packs}
+use Rattle.swiss.proofs.Serves.{swiss-serves}
 use Rattle.capi.proofs.qrbill_write.Statement.{statement}
 use Rattle.capi.proofs.qrbill_write.Tie as tie
 
@@ -17,7 +17,7 @@ write-requires c κs = search needs
 
 packed-laying-requires : tie.Need-packed-laying-requires
 unfolding swiss
-packed-laying-requires c κs = writing-packs packs (c .before .before .write .ensures) (search needs)
+packed-laying-requires c κs = writing-packs swiss-serves (c .before .before .write .ensures) (search needs)
 
 same-length : tie.Need-same-length
 same-length c = search needs

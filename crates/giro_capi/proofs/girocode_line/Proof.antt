@@ -5,7 +5,7 @@ use Rattle.girocode.specs.Girocode.{girocode}
 use Rattle.whole.proofs.Judging.{judged-length}
 use Rattle.packing.proofs.Calls.{line-packed}
 use borrow.Author.Needs.{needs}
-use Rattle.giro_capi.proofs.Packs.{packs}
+use Rattle.girocode.proofs.Serves.{girocode-serves}
 use Rattle.giro_capi.proofs.girocode_line.Statement.{statement}
 use Rattle.giro_capi.proofs.girocode_line.Tie as tie
 
@@ -20,7 +20,7 @@ packed-line-requires c κs = record { numbers = judged-length (c .before .judge 
 
 returns : tie.Need-returns
 unfolding girocode
-returns c = c .packed-line .ensures ∙ line-packed packs (c .before .before .judge .ensures) _
+returns c = c .packed-line .ensures ∙ line-packed girocode-serves (c .before .before .judge .ensures) _
 
 pub girocode-line-spec : {M : Type 1} → statement M
 girocode-line-spec =

@@ -1,7 +1,7 @@
--- `giro_capi::girocode_places` meets its contract: what the reader answers packs. Assumes nothing.
+-- `giro_capi::girocode_places` meets its contract: what the reader answers girocode-serves. Assumes nothing.
 use Rattle.packing.proofs.Calls.{read-packed, reading-packs}
 use borrow.Author.Needs.{needs}
-use Rattle.giro_capi.proofs.Packs.{packs}
+use Rattle.girocode.proofs.Serves.{girocode-serves}
 use Rattle.giro_capi.proofs.girocode_places.Statement.{statement}
 use Rattle.giro_capi.proofs.girocode_places.Tie as tie
 
@@ -9,7 +9,7 @@ read-requires : tie.Need-read-requires
 read-requires c κs = search needs
 
 packed-verdict-requires : tie.Need-packed-verdict-requires
-packed-verdict-requires c κs = reading-packs packs (c .before .before .read .ensures)
+packed-verdict-requires c κs = reading-packs girocode-serves (c .before .before .read .ensures)
 
 same-length : tie.Need-same-length
 same-length c = search needs

@@ -1,7 +1,7 @@
--- `giro_capi::girocode_write` meets its contract: what the writer answers packs. Assumes nothing.
+-- `giro_capi::girocode_write` meets its contract: what the writer answers girocode-serves. Assumes nothing.
 use Rattle.packing.proofs.Calls.{written-packed, writing-packs}
 use borrow.Author.Needs.{needs}
-use Rattle.giro_capi.proofs.Packs.{packs}
+use Rattle.girocode.proofs.Serves.{girocode-serves}
 use Rattle.giro_capi.proofs.girocode_write.Statement.{statement}
 use Rattle.giro_capi.proofs.girocode_write.Tie as tie
 
@@ -15,7 +15,7 @@ write-requires : tie.Need-write-requires
 write-requires c κs = search needs
 
 packed-laying-requires : tie.Need-packed-laying-requires
-packed-laying-requires c κs = writing-packs packs (c .before .before .write .ensures) (search needs)
+packed-laying-requires c κs = writing-packs girocode-serves (c .before .before .write .ensures) (search needs)
 
 same-length : tie.Need-same-length
 same-length c = search needs

@@ -8,6 +8,10 @@ use borrow.Author.Needs.{needs}
 use Rattle.giro_rules.proofs.information.Statement.{statement}
 use Rattle.giro_rules.proofs.information.Tie as tie
 
+-- where all began, from where the second line was taken
+abbrev start : tie.After-line2 → tie.Start
+start q = q .before .before .before .before .before .before .before .before
+
 line-requires : tie.Need-line-requires
 line-requires c κs = search needs
 
@@ -39,9 +43,7 @@ rule-requires-2 : tie.Need-rule-requires-2
 rule-requires-2 c κs = search needs
 
 line-requires-3 : tie.Need-line-requires-3
-line-requires-3 c κs =
-    let at-start = c .before .before .before .before .before .before .before .before .before .before .before in
-    (at-start .pre .0 .listed, lit≤ tt, lit≤ tt)
+line-requires-3 c κs = (start (c .before .before .before) .pre .0 .listed, lit≤ tt, lit≤ tt)
 
 filled-requires-3 : tie.Need-filled-requires-3
 filled-requires-3 c κs = search needs

@@ -7,6 +7,10 @@ use borrow.Author.Needs.{needs}
 use Rattle.giro_rules.proofs.receiver.Statement.{statement}
 use Rattle.giro_rules.proofs.receiver.Tie as tie
 
+-- where all began, from where the third line was taken
+abbrev start : tie.After-line3 → tie.Start
+start q = q .before .before .before .before .before .before .before .before .before
+
 line-requires : tie.Need-line-requires
 line-requires c κs = search needs
 
@@ -41,9 +45,7 @@ rule-requires : tie.Need-rule-requires
 rule-requires c κs = search needs
 
 line-requires-4 : tie.Need-line-requires-4
-line-requires-4 c κs =
-    let at-start = c .before .before .before .before .before .before .before .before .before .before .before .before in
-    (at-start .pre .listed, lit≤ tt, lit≤ tt)
+line-requires-4 c κs = (start (c .before .before .before) .pre .listed, lit≤ tt, lit≤ tt)
 
 filled-requires-3 : tie.Need-filled-requires-3
 filled-requires-3 c κs = search needs

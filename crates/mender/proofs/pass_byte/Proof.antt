@@ -6,6 +6,10 @@ use Rattle.mender.proofs.Passing.{can-put, after-byte, after-lone, afte
 use Rattle.mender.proofs.pass_byte.Statement.{statement}
 use Rattle.mender.proofs.pass_byte.Tie as tie
 
+-- where all began, from where LF was looked for behind CR
+abbrev began : tie.After-feed-after → tie.Start
+began q = q .before .before .before .before .before .before
+
 shared-slice-read-x : tie.Need-shared-slice-read-x
 shared-slice-read-x c = search needs
 
@@ -32,7 +36,7 @@ add-two c = search needs
 
 returns-2 : tie.Need-returns-2
 returns-2 c =
-    let start = c .before .before .before .before .before .before .before in
+    let start = began (c .before) in
     after-pair (start .args .payload .now) (start .args .i) (start .args .t) (start .args .room .now) (start .pre) (eq-eqb _ _ (c .before .before .if1 .left)) (sym (c .before .feed-after .ensures) ∙ c .if2 .taken)
 
 put-requires-2 : tie.Need-put-requires-2
@@ -43,9 +47,10 @@ same-length-2 c = search needs
 
 returns-3 : tie.Need-returns-3
 returns-3 c =
-    let start = c .before .before .before .before .before .before .before .before .before .before .before in
+    let looked = c .before .before .before .before .before in
+    let start = began looked in
     let put = c .before .before .put2 .ensures in
-    after-lone (start .args .payload .now) (start .args .i) (start .args .t) (start .args .room .now) (start .pre) (eq-eqb _ _ (c .before .before .before .before .before .before .if1 .left)) (sym (c .before .before .before .before .before .feed-after .ensures) ∙ c .before .before .before .before .if2 .left) (put .0) (put .1)
+    after-lone (start .args .payload .now) (start .args .i) (start .args .t) (start .args .room .now) (start .pre) (eq-eqb _ _ (looked .before .if1 .left)) (sym (looked .feed-after .ensures) ∙ c .before .before .before .before .if2 .left) (put .0) (put .1)
 
 pub pass-byte-spec : {M : Type 1} → statement M
 pass-byte-spec =

@@ -67,12 +67,19 @@ part-lay-mended-end c = search needs
 lay-mended-requires : tie.Need-lay-mended-requires
 lay-mended-requires c κs = search needs
 
+-- where the payload was swept, from where the reader was asked, and where all began
+abbrev swept : tie.After-verdict → tie.After-sweep
+swept v = v .before .before .before .before .before .before .before .before
+
+abbrev start : tie.After-verdict → tie.Start
+start v = swept v .before .before .before .before
+
 -- the reader is asked about the reworked payload
-asked : (v : tie.After-verdict) → paper (v .verdict .result) ≡ verdict swiss (reworked (v .before .before .before .before .before .before .before .before .before .before .before .before .args .payload .now))
-asked v = v .verdict .ensures ∙ ap (verdict swiss) (front-is (v .before .before .before .before .before .before .before .before .sweep .ensures) (v .before .before .before .before .end-of .ensures))
+asked : (v : tie.After-verdict) → paper (v .verdict .result) ≡ verdict swiss (reworked (start v .args .payload .now))
+asked v = v .verdict .ensures ∙ ap (verdict swiss) (front-is (swept v .sweep .ensures) (v .before .before .before .before .end-of .ensures))
 
 returns : tie.Need-returns
-returns c = by-refusal (bySteps (c .before .before .before .before .before .before .before .before .before .before .before .before .before .before .before .args .payload .now)) _ (asked (c .before .before .before)) (c .before .f .given .1)
+returns c = by-refusal (bySteps (start (c .before .before .before) .args .payload .now)) _ (asked (c .before .before .before)) (c .before .f .given .1)
 
 same-length : tie.Need-same-length
 same-length c = search needs
@@ -80,9 +87,9 @@ same-length c = search needs
 returns-2 : tie.Need-returns-2
 returns-2 c =
     let v = c .before .before .before .before .before .before .before .before in
-    let swept = v .before .before .before .before .before .before .before .before .sweep .ensures in
+    let sweeping = swept v .sweep .ensures in
     let ended = v .before .before .before .before .end-of .ensures in
-    by-room (bySteps (v .before .before .before .before .before .before .before .before .before .before .before .before .args .payload .now)) _ (asked v) (c .before .before .before .before .before .before .enum-told .given .1) (same-mend (front-is swept ended) (repairs-are swept ended) (c .before .before .lay-mended .ensures))
+    by-room (bySteps (start v .args .payload .now)) _ (asked v) (c .before .before .before .before .before .before .enum-told .given .1) (same-mend (front-is sweeping ended) (repairs-are sweeping ended) (c .before .before .lay-mended .ensures))
 
 pub rework-spec : {M : Type 1} → statement M
 rework-spec =

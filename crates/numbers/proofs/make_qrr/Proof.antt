@@ -1,13 +1,13 @@
 -- `numbers::make_qrr` meets its contract: room is asked for before anything is laid. Assumes nothing.
 use native.Mathlib.Omega.{arith}
 use mathlib.Core.Bool.{true, not}
-use mathlib.Core.List.{[], _∷_}
+use mathlib.Core.List.{[], _∷_, _++_}
 use mathlib.Core.Path.{_≡_, refl, sym, ap, _∙_}
 use lib.Dec.{eqb}
 use lib.ListN.{length, length-append}
 use borrow.Author.Tests.{eqb-true}
 use borrow.Author.Needs.{needs}
-use Rattle.sieve.specs.Bytes.{every}
+use Rattle.sieve.specs.Bytes.{every, over}
 use Rattle.sieve.specs.Letters.{digit}
 use Rattle.sieve.specs.Mod10.{checkDigit}
 use Rattle.numbers.specs.Made.{zeros, qrrPart, laidAt}
@@ -49,16 +49,25 @@ lay-at-requires-2 c κs = search needs
 same-length : tie.Need-same-length
 same-length c = search needs
 
+-- where both parts were laid, from behind: the digits, and before them the check digit
+abbrev behind-digits : tie.After-lay-at2 → tie.After-lay-at
+behind-digits q = q .before .before .before .before .before
+
+abbrev behind-check : tie.After-lay-at2 → tie.After-check-digit
+behind-check q = behind-digits q .before .before
+
 returns-2 : tie.Need-returns-2
 returns-2 c =
-    let left = c .before .before .before .before .before .before .before .before .before .before in
-    let a = c .before .before .before .before .before .before .before .before .before .before .before .before .before .before .before .args in
+    let q = c .before .before in
+    let check = behind-check q .check-digit in
+    let left = behind-check q .before in
+    let a = left .before .before .before .before .before .args in
     let s = a .digits .now in
     let n = twenty-six (left .before) in
     let size = length-append s (checkDigit s ∷ []) in
-    let first = c .before .before .before .before .before .before .before .lay-at .ensures ∙ laid-first (a .dest .now) s in
-    let last = c .before .before .lay-at2 .ensures ∙ ap (laidAt 26 (c .before .before .before .before .before .before .before .before .before .check-digit .result ∷ [])) first ∙ laid-behind (a .dest .now) s (c .before .before .before .before .before .before .before .before .before .check-digit .result ∷ []) 26 n in
-    is-laid (formed (left .before)) (omega (arith, left .if2 .left, n, size)) (omega (arith, n, size)) (rw (c .before .before .before .before .before .before .before .before .before .check-digit .ensures) at last)
+    let first = behind-digits q .lay-at .ensures ∙ laid-first (a .dest .now) s in
+    let last = q .lay-at2 .ensures ∙ ap (laidAt 26 (check .result ∷ [])) first ∙ laid-behind (a .dest .now) s (check .result ∷ []) 26 n in
+    is-laid (formed (left .before)) (omega (arith, left .if2 .left, n, size)) (omega (arith, n, size)) (last ∙ ap (λ x. over (a .dest .now) (s ++ (x ∷ []))) (check .ensures))
 
 returns-3 : tie.Need-returns-3
 returns-3 c = not-formed (sym (c .before .qrr-part .ensures) ∙ c .if1 .left)

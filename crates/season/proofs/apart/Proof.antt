@@ -8,7 +8,7 @@ use lib.ListN.{getD}
 use Rattle.sieve.specs.Bytes.{same}
 use Rattle.sieve.specs.Paper.{paper}
 use Rattle.sieve.specs.Verdict.{Verdict, accepted, refused}
-use Rattle.pile.specs.Pile.{entry}
+use Rattle.pile.specs.Pile.{billNumbers}
 use Rattle.season.specs.Season.{apart}
 use borrow.Author.Needs.{needs}
 use Rattle.season.proofs.apart.Statement.{statement}
@@ -30,7 +30,7 @@ two : (a b c d : ℕ) → not (eqb a c && eqb b d) ≡ not (same (a ∷ b ∷ []
 two a b c d = rw (and-true (eqb b d))
 
 -- an entry is a number and a line
-by-parts : (v w : Verdict) → not (eqb (getD (entry v) 0 0) (getD (entry w) 0 0) && eqb (getD (entry v) 1 0) (getD (entry w) 1 0)) ≡ apart v w
+by-parts : (v w : Verdict) → not (eqb (getD (billNumbers v) 0 0) (getD (billNumbers w) 0 0) && eqb (getD (billNumbers v) 1 0) (getD (billNumbers w) 1 0)) ≡ apart v w
 by-parts (accepted n k) (accepted m j) = two 0 n 0 m
 by-parts (accepted n k) (refused q) = two 0 n (q .number) (q .line)
 by-parts (refused r) (accepted m j) = two (r .number) (r .line) 0 m

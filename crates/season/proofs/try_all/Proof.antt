@@ -15,13 +15,18 @@ Inv-loop buffer places count list₀ n₀ francs₀ euros₀ i₀ lines₀ list 
 abbrev μ-loop : tie.MeasureT-loop
 μ-loop buffer places count list₀ n₀ francs₀ euros₀ i₀ lines₀ list n francs euros i lines = count - i
 
+-- where all began, and where the turn of the loop did
+abbrev start : tie.In-loop Inv-loop μ-loop → tie.Start Inv-loop μ-loop
+start q = q .before .before .before .before .before
+
+abbrev turn : tie.After-try-bill Inv-loop μ-loop → tie.In-loop Inv-loop μ-loop
+turn q = q .before .before .before .before .before
+
 -- the place of the bill in hand is there, and lies inside the buffer
 bill : (c : tie.In-loop Inv-loop μ-loop)
-    → let at-loop = c .before in let a = at-loop .before .before .before .before .args in
-    Within (a .buffer .now) (a .places .now) (at-loop .loop .i)
-bill c =
-    let at-loop = c .before in
-    at-loop .before .before .before .before .pre .inside (at-loop .loop .i) (c .loop-test .taken)
+    → let a = start c .args in
+    Within (a .buffer .now) (a .places .now) (c .before .loop .i)
+bill c = start c .pre .inside (c .before .loop .i) (c .loop-test .taken)
 
 loop-holds : tie.Need-loop-holds Inv-loop μ-loop
 loop-holds c = (omega arith, none-tried _ _ _ _)
@@ -74,42 +79,43 @@ add-i : tie.Need-add-i Inv-loop μ-loop
 add-i c = search needs
 
 cast-list-position : tie.Need-cast-list-position Inv-loop μ-loop
-cast-list-position c = omega (arith, c .before .before .before .before .before .before .loop-test .taken, c .before .before .before .before .before .before .before .before .before .before .before .pre .few)
+cast-list-position c = let in-loop = turn (c .before) in omega (arith, in-loop .loop-test .taken, start in-loop .pre .few)
 
 list-position-requires : tie.Need-list-position-requires Inv-loop μ-loop
 list-position-requires c κs =
-    let t = c .before .before .before .before .before .before .before .loop .inv .1 in
-    omega (arith, c .before .before .before .before .before .before .loop-test .taken, c .before .before .before .before .before .before .before .before .before .before .before .pre .room, t .few, t .laid .size)
+    let in-loop = turn (c .before) in
+    let t = in-loop .before .loop .inv .1 in
+    omega (arith, in-loop .loop-test .taken, start in-loop .pre .room, t .few, t .laid .size)
 
 -- no bill adds more than the greatest amount to either sum
 
 add-francs : tie.Need-add-francs Inv-loop μ-loop
 add-francs c =
-    let in-loop = c .before .before .before .before .before .before .before .before .before .before in
-    let at-loop = in-loop .before in
-    let (francs, euros) = outcome-most (c .before .before .before .before .before .try-bill .ensures) in
-    omega (arith, in-loop .loop-test .taken, at-loop .before .before .before .before .pre .few, at-loop .loop .inv .1 .low-francs, francs, euros)
+    let tried = c .before .before .before .before .before in
+    let in-loop = turn tried in
+    let (francs, euros) = outcome-most (tried .try-bill .ensures) in
+    omega (arith, in-loop .loop-test .taken, start in-loop .pre .few, in-loop .before .loop .inv .1 .low-francs, francs, euros)
 
 add-euros : tie.Need-add-euros Inv-loop μ-loop
 add-euros c =
-    let in-loop = c .before .before .before .before .before .before .before .before .before .before .before in
-    let at-loop = in-loop .before in
-    let (francs, euros) = outcome-most (c .before .before .before .before .before .before .try-bill .ensures) in
-    omega (arith, in-loop .loop-test .taken, at-loop .before .before .before .before .pre .few, at-loop .loop .inv .1 .low-euros, francs, euros)
+    let tried = c .before .before .before .before .before .before in
+    let in-loop = turn tried in
+    let (francs, euros) = outcome-most (tried .try-bill .ensures) in
+    omega (arith, in-loop .loop-test .taken, start in-loop .pre .few, in-loop .before .loop .inv .1 .low-euros, francs, euros)
 
 loop-less : tie.Need-loop-less Inv-loop μ-loop
 loop-less c = search needs
 
 loop-again : tie.Need-loop-again Inv-loop μ-loop
 loop-again c =
-    let in-loop = c .before .before .before .before .before .before .before .before .before .before .before in
+    let tried = c .before .before .before .before .before .before in
+    let in-loop = turn tried in
     let at-loop = in-loop .before in
-    let start = at-loop .before .before .before .before in
-    let a = start .args in
+    let a = start in-loop .args in
     let s = spanAt (a .places .now) (at-loop .loop .i) in
     let e : s .start + s .bytes - s .start ≡ s .bytes = omega arith in
     let noted = c .before .before .before .before .list-position .ensures in
-    (omega (arith, in-loop .loop-test .taken), one-tried (a .buffer .now) (a .places .now) (a .count) (at-loop .loop .i) (in-loop .loop-test .taken) (at-loop .loop .inv .1) (start .pre .room) (rw e at (c .before .before .before .before .before .before .try-bill .ensures)) (noted .0) (noted .1))
+    (omega (arith, in-loop .loop-test .taken), one-tried (a .buffer .now) (a .places .now) (a .count) (at-loop .loop .i) (in-loop .loop-test .taken) (at-loop .loop .inv .1) (start in-loop .pre .room) (rw e at (tried .try-bill .ensures)) (noted .0) (noted .1))
 
 same-length : tie.Need-same-length Inv-loop μ-loop
 same-length c = search needs

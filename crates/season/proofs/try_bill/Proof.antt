@@ -9,6 +9,10 @@ use borrow.Author.Needs.{needs}
 use Rattle.season.proofs.try_bill.Statement.{statement}
 use Rattle.season.proofs.try_bill.Tie as tie
 
+-- where all began, from where 2.2 was asked
+abbrev start : tie.After-judge-in2 → tie.Start
+start q = q .before .before .before .before .before .before .before
+
 judge-in-requires : tie.Need-judge-in-requires
 judge-in-requires c κs = search needs
 
@@ -36,7 +40,7 @@ enum-told-4 c = search needs
 apart-requires : tie.Need-apart-requires
 apart-requires c κs = search needs
 
-differing : (c : tie.After-apart) → c .apart .result ≡ editionsDiffer (c .before .before .before .before .before .before .before .before .before .before .args .bill .now)
+differing : (c : tie.After-apart) → c .apart .result ≡ editionsDiffer (start (c .before .before .before) .args .bill .now)
 unfolding editionsDiffer
 differing c = rw (c .before .before .before .judge-in2 .ensures .answer, c .before .before .before .before .before .before .before .judge-in .ensures .answer) at (c .apart .ensures)
 
@@ -44,22 +48,22 @@ returns : tie.Need-returns
 returns c =
     let p = c .before .before .before .before .before .before .before .args .bill .now in
     let v = sym (c .before .before .before .before .judge-in .ensures .answer) ∙ ap paper (c .before .before .enum-told .given .1) in
-    let is = c .paid .ensures in
-    record { differs-is = is .differs-is ∙ sym (accepted-alike p _ _ v); in-francs = is .in-francs; in-euros = is .in-euros }
+    let outcome = c .paid .ensures in
+    record { differs-is = outcome .differs-is ∙ sym (accepted-alike p _ _ v); in-francs = outcome .in-francs; in-euros = outcome .in-euros }
 
 returns-2 : tie.Need-returns-2
 returns-2 c =
     let at-old = c .before .before .before .before in
-    let p = at-old .before .before .before .before .before .before .before .args .bill .now in
+    let p = start at-old .args .bill .now in
     let old = sym (at-old .judge-in2 .ensures .answer) ∙ ap paper (c .before .before .enum-told3 .given .1) in
     let new = sym (at-old .before .before .before .before .judge-in .ensures .answer) ∙ ap paper (at-old .before .before .enum-told2 .given .1) in
-    let is = c .paid2 .ensures in
-    record { differs-is = is .differs-is ∙ sym (accepted-apart p _ _ (at-old .before .before .enum-told2 .given .0 .0) old new); in-francs = is .in-francs; in-euros = is .in-euros }
+    let outcome = c .paid2 .ensures in
+    record { differs-is = outcome .differs-is ∙ sym (accepted-apart p _ _ (at-old .before .before .enum-told2 .given .0 .0) old new); in-francs = outcome .in-francs; in-euros = outcome .in-euros }
 
 returns-3 : tie.Need-returns-3
 returns-3 c =
     let at-old = c .before .before .before in
-    let p = at-old .before .before .before .before .before .before .before .args .bill .now in
+    let p = start at-old .args .bill .now in
     let old = sym (at-old .judge-in2 .ensures .answer) ∙ ap paper (c .before .enum-told4 .given .1) in
     record { differs-is = differing c; in-francs = sym (nothing-added p old francs); in-euros = sym (nothing-added p old euros) }
 

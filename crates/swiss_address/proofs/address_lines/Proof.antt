@@ -29,11 +29,15 @@ name-is : (c : tie.After-text) → let s = c .before .before .before in c .text 
 unfolding looked
 name-is c = rw (c .before .line .ensures) at (c .text .ensures)
 
-first-is : (c : tie.After-at-most) → let s = c .before .before .before .before .before .before .before in c .at-most .result ≡ looked kept (of-first (s .args .n)) (ls s)
+-- where all began, from where the first line was found
+abbrev start : tie.After-at-most → tie.Start
+start q = q .before .before .before .before .before .before .before
+
+first-is : (c : tie.After-at-most) → let s = start c in c .at-most .result ≡ looked kept (of-first (s .args .n)) (ls s)
 unfolding looked
 first-is c = rw (c .before .line2 .ensures) at (c .at-most .ensures)
 
-second-is : (c : tie.After-text2) → let s = c .before .before .before .before .before .before .before .before .before .before .before in c .text2 .result ≡ looked kept (of-second (s .args .n)) (ls s)
+second-is : (c : tie.After-text2) → let s = start (c .before .before .before .before) in c .text2 .result ≡ looked kept (of-second (s .args .n)) (ls s)
 unfolding looked
 second-is c = rw (c .before .line3 .ensures) at (c .text2 .ensures)
 

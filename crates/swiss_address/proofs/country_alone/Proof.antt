@@ -28,11 +28,15 @@ postcode-is : (c : tie.After-empty) → c .empty .result ≡ looked kept (of-non
 unfolding looked
 postcode-is c = rw (c .before .line .ensures) at (c .empty .ensures)
 
-town-is : (c : tie.After-empty2) → c .empty2 .result ≡ looked kept (of-none (c .before .before .before .before .before .before .before .args .n + 5)) (ls (c .before .before .before .before .before .before .before))
+-- where all began, from where the town was found
+abbrev start : tie.After-empty2 → tie.Start
+start q = q .before .before .before .before .before .before .before
+
+town-is : (c : tie.After-empty2) → let s = start c in c .empty2 .result ≡ looked kept (of-none (s .args .n + 5)) (ls s)
 unfolding looked
 town-is c = rw (c .before .line2 .ensures) at (c .empty2 .ensures)
 
-country-is : (c : tie.After-formed) → c .formed .result ≡ looked kept (of-country (c .before .before .before .before .before .before .before .before .before .before .before .before .before .args .n)) (ls (c .before .before .before .before .before .before .before .before .before .before .before .before .before))
+country-is : (c : tie.After-formed) → let s = start (c .before .before .before .before .before .before) in c .formed .result ≡ looked kept (of-country (s .args .n)) (ls s)
 unfolding looked
 country-is c = rw (c .before .country .ensures, c .before .before .filled .ensures, c .before .before .before .line3 .ensures) at (c .formed .ensures)
 

@@ -13,7 +13,11 @@ use borrow.Author.Needs.{needs}
 use Rattle.swiss_rules.proofs.middle.Statement.{statement}
 use Rattle.swiss_rules.proofs.middle.Tie as tie
 
-payment-is : (c : tie.After-payment) → c .payment .result ≡ finds payment (linesOf (cut (c .before .before .before .before .before .before .before .args .payload .now)))
+-- where all began, from where the payment was found
+abbrev start : tie.After-payment → tie.Start
+start q = q .before .before .before .before .before .before .before
+
+payment-is : (c : tie.After-payment) → c .payment .result ≡ finds payment (linesOf (cut (start c .args .payload .now)))
 payment-is c = rw (c .before .line2 .ensures, c .before .before .line .ensures) at (c .payment .ensures) ∙ of-payment _
 
 vacant-requires : tie.Need-vacant-requires
@@ -47,7 +51,7 @@ unfolding middle flatten emptyFrom numbered
 returns-3 c =
     let at-payment = c .before .before .before in
     group-passed _ (vacant 12) _ refl (at-payment .before .before .before .before .before .vacant .ensures) (at-payment .before .before .before .if1 .left)
-    (group-passed _ payment (address (c .before .before .before .before .before .before .before .before .before .before .args .edition) 21 (isEmpty 21)) refl (payment-is at-payment) (c .before .if2 .left) (c .address .ensures))
+    (group-passed _ payment (address (start at-payment .args .edition) 21 (isEmpty 21)) refl (payment-is at-payment) (c .before .if2 .left) (c .address .ensures))
 
 pub middle-spec : {M : Type 1} → statement M
 middle-spec =
