@@ -38,13 +38,13 @@ LINES = (
     ('fixedAs 3 (λ ls. is 3 utf8 ls || is 3 iso8859-1 ls || has 3 unreadCoding ls)', 'unread 3 (has 3 unreadCoding)'),
     ('fixed 4 creditTransfer',),
     ('filled 5 (is 2 version001)', 'formed 5 (has 5 bic)'),
-    ('filled 6 always', 'atMost nameMost 6'),
+    ('filled 6 always', 'sized nameMost 6'),
     ('filled 7 always', 'formed 7 (has 7 iban)', 'checked 7 (has 7 checks97)'),
     ('filled 8 (isLast 8)', 'formed 8 (has 8 amount)'),
-    ('filled 9 (isLast 9)', 'atMost purposeMost 9', 'formed 9 (has 9 plain)'),
-    ('filled 10 (isLast 10)', 'atMost referenceMost 10', 'formed 10 (has 10 plain)'),
-    ('filled 11 (isLast 11)', 'atMost textMost 11'),
-    ('filled 12 (isLast 12)', 'atMost displayMost 12'),
+    ('filled 9 (isLast 9)', 'sized purposeMost 9', 'formed 9 (has 9 basic)'),
+    ('filled 10 (isLast 10)', 'sized referenceMost 10', 'formed 10 (has 10 basic)'),
+    ('filled 11 (isLast 11)', 'sized textMost 11'),
+    ('filled 12 (isLast 12)', 'sized displayMost 12'),
 )
 BOTH_FILLED = 'not (isEmpty 10 ls) && not (isEmpty 11 ls)'
 EXCLUSIVE = f'record {{ number = 12; line = 11; broken = λ ls. {BOTH_FILLED} }}'
@@ -124,9 +124,9 @@ def other_last_lines():
 
 def other_sizes():
     """Each length in bytes, and in characters of 01, under both codings."""
-    for rule in (rule for line in LINES for rule in line if rule.startswith('atMost ')):
+    for rule in (rule for line in LINES for rule in line if rule.startswith('sized ')):
         for name, size in (('in bytes', LENGTH), ('by 01', CHARACTERS)):
-            yield Wrong(f'{rule} {name}', GIROCODE, rule, rule.replace('atMost', f'sizedAtMost (λ ls. {size})'), '9: ')
+            yield Wrong(f'{rule} {name}', GIROCODE, rule, rule.replace('sized', f'sizedAtMost (λ ls. {size})'), '9: ')
 
 
 THIRD = f'({LINE} 3 ls)'
@@ -211,9 +211,9 @@ OTHER_RULES = (
     Wrong('a name if there is no IBAN', GIROCODE, 'filled 6 always', 'filled 6 (isEmpty 7)'),
     Wrong('an IBAN unless it is last', GIROCODE, 'filled 7 always', 'filled 7 (λ ls. not (isLast 7 ls))'),
     Wrong('an IBAN if it is last', GIROCODE, 'filled 7 always', 'filled 7 (isLast 7)'),
-    Wrong('a name of plain bytes', GIROCODE, 'atMost nameMost 6', 'atMost nameMost 6 ∷ formed 6 (has 6 plain)'),
-    Wrong('a text of plain bytes', GIROCODE, 'atMost textMost 11', 'atMost textMost 11 ∷ formed 11 (has 11 plain)'),
-    Wrong('a display of plain bytes', GIROCODE, 'atMost displayMost 12', 'atMost displayMost 12 ∷ formed 12 (has 12 plain)'),
+    Wrong('a name of plain bytes', GIROCODE, 'sized nameMost 6', 'sized nameMost 6 ∷ formed 6 (has 6 basic)'),
+    Wrong('a text of plain bytes', GIROCODE, 'sized textMost 11', 'sized textMost 11 ∷ formed 11 (has 11 basic)'),
+    Wrong('a display of plain bytes', GIROCODE, 'sized displayMost 12', 'sized displayMost 12 ∷ formed 12 (has 12 basic)'),
     # reference and text
     Wrong('either filled', GIROCODE, BOTH_FILLED, 'not (isEmpty 10 ls) || not (isEmpty 11 ls)'),
     Wrong('neither filled', GIROCODE, BOTH_FILLED, 'isEmpty 10 ls && isEmpty 11 ls'),
@@ -286,9 +286,9 @@ OTHER_FORMS = (
     Wrong('the first 8 of a BIC', FORMS, f'&& {BIC}', '&& every digitOrCapital (take 8 s)'),
     Wrong('all but the last of a BIC', FORMS, f'&& {BIC}', '&& every digitOrCapital (take (length s - 1) s)'),
     # IBAN
-    *(Wrong(f'an IBAN of {low} to {high}', FORMS, 'within 5 34', f'within {low} {high}') for low, high in ((4, 34), (6, 34), (5, 33), (5, 35), (15, 34))),
-    Wrong('an IBAN of 5 and more', FORMS, 'within 5 34 (length s)', f'{AT_MOST} 5 (length s)'),
-    Wrong('an IBAN of any length', FORMS, 'within 5 34 (length s) && ', ''),
+    *(Wrong(f'an IBAN of {low} to {high}', FORMS, 'within ibanFewest ibanMost', f'within {low} {high}') for low, high in ((4, 34), (6, 34), (5, 33), (5, 35), (15, 34))),
+    Wrong('an IBAN of 5 and more', FORMS, 'within ibanFewest ibanMost (length s)', f'{AT_MOST} 5 (length s)'),
+    Wrong('an IBAN of any length', FORMS, 'within ibanFewest ibanMost (length s) && ', ''),
     *(Wrong(f'an IBAN with {name}', FORMS, 'every capital (take 2 s)', new) for name, new in (
         ('anything first', 'every capital (take 1 (drop 1 s))'), ('anything second', 'every capital (take 1 s)'),
         ('digits first', 'every digitOrCapital (take 2 s)'), ('small letters first', f'every {LETTER} (take 2 s)'),
@@ -330,11 +330,11 @@ OTHER_FORMS = (
     Wrong('00 but no single last 0', FORMS, LAST, f'(same (drop 1 s) (ascii "00") || {LAST})'),
     Wrong('no 0 behind the point', FORMS, LAST, 'not (eqb (getD s 1 0) 48)'),
     # the amount
-    Wrong('an amount with a point alone', FORMS, 'whole v || parted 2 v', 'parted 2 v'),
-    Wrong('an amount with no single digit behind the point', FORMS, ' || parted 2 v', ''),
-    Wrong('an amount with no two digits behind the point', FORMS, ' || parted 3 v', ''),
-    Wrong('an amount with a last point', FORMS, 'whole v || parted 2 v', 'whole v || parted 1 v || parted 2 v'),
-    Wrong('an amount with three digits behind the point', FORMS, ' || parted 3 v', ' || parted 3 v || parted 4 v'),
+    Wrong('an amount with a point alone', FORMS, 'whole v || withFraction 2 v', 'withFraction 2 v'),
+    Wrong('an amount with no single digit behind the point', FORMS, ' || withFraction 2 v', ''),
+    Wrong('an amount with no two digits behind the point', FORMS, ' || withFraction 3 v', ''),
+    Wrong('an amount with a last point', FORMS, 'whole v || withFraction 2 v', 'whole v || withFraction 1 v || withFraction 2 v'),
+    Wrong('an amount with three digits behind the point', FORMS, ' || withFraction 3 v', ' || withFraction 3 v || withFraction 4 v'),
     Wrong('an amount in any currency', FORMS, 'same (take 3 s) (ascii euro) && ', ''),
     Wrong('an amount in three capitals', FORMS, 'same (take 3 s) (ascii euro)', 'every capital (take 3 s)'),
     *(Wrong(f'anything as place {place + 1} of EUR', FORMS, 'same (take 3 s) (ascii euro)',
@@ -346,7 +346,7 @@ OTHER_FORMS = (
     Wrong('no amount of 1', FORMS, 'not (same v (ascii "0"))', 'not (same v (ascii "0")) && not (same v (ascii "1"))'),
     Wrong('no amount of 0.01', FORMS, 'not (same v (ascii "0"))', 'not (same v (ascii "0")) && not (same v (ascii "0.01"))'),
     # purpose and reference
-    *(Wrong(f'plain: {name}', FORMS, 'plain s = every inOne s', f'plain s = {new}') for name, new in (
+    *(Wrong(f'basic: {name}', FORMS, 'basic s = every inOne s', f'basic s = {new}') for name, new in (
         ('no space', 'every (within 0x21 0x7E) s'), ('no tilde', 'every (within 0x20 0x7D) s'), ('A0 too', 'every (within 0x20 0xA0) s'),
         ('FF too', 'every (λ x. inOne x || eqb x 0xFF) s'), ('umlauts too', 'every (λ x. inOne x || eqb x 0xC3 || eqb x 0xBC) s'),
         ('euros too', 'every (λ x. inOne x || eqb x 0xE2 || eqb x 0x82 || eqb x 0xAC) s'), ('anything', 'every (within 0 255) s'),
@@ -354,8 +354,8 @@ OTHER_FORMS = (
         ('anything but its ends', 'inOne (getD s 0 0) && inOne (getD s (length s - 1) 0)'), ('letters and digits', f'every {ALPHANUMERIC} s'),
         ('no signs before 0', f'every (λ x. {ALPHANUMERIC} x || within 58 126 x || eqb x 32) s'), ('no small letters', 'every (λ x. inOne x && not (within 97 122 x)) s'),
         ('no brackets', 'every (λ x. inOne x && not (within 91 96 x)) s'))),
-    Wrong('the purpose by the form of the reference', GIROCODE, 'formed 9 (has 9 plain)', 'formed 9 (has 10 plain)'),
-    Wrong('the reference by the form of the purpose', GIROCODE, 'formed 10 (has 10 plain)', 'formed 10 (has 9 plain)'),
+    Wrong('the purpose by the form of the reference', GIROCODE, 'formed 9 (has 9 basic)', 'formed 9 (has 10 basic)'),
+    Wrong('the reference by the form of the purpose', GIROCODE, 'formed 10 (has 10 basic)', 'formed 10 (has 9 basic)'),
 )
 
 # What is shared, and only the girocode asks for.

@@ -84,7 +84,7 @@ SHARED = (
     Wrong('pair 99 passes', MOD97, 'within 2 98', 'within 2 99'),
     Wrong('pair 98 barred', MOD97, 'within 2 98', 'within 2 97'),
     Wrong('pair 02 barred', MOD97, 'within 2 98', 'within 3 98'),
-    Wrong('any pair', MOD97, 'within 2 98 (number 0 (pair s)) && ', ''),
+    Wrong('any pair', MOD97, 'within 2 98 (numeral 0 (pair s)) && ', ''),
     Wrong('the pair one later', MOD97, 'take 2 (drop 2 s)', 'take 2 (drop 3 s)'),
     Wrong('by 96', MOD97, '% 97', '% 96'),
     Wrong('nothing moved', MOD97, 'drop 4 s ++ take 4 s', 's'),

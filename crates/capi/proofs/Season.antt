@@ -78,9 +78,9 @@ module _ (buffer : Bytes) (places : List ℕ) (count : ℕ) (list sums : List �
     listed-packed enough m =
         let found : all ≡ none = sym (beside-enough (placeFindings buffer places count) count (length list) (length sums) 2 enough) ∙ nothing in
         let whole : room ≡ length list = is-room ∙ rw (le-ltb (length sums) 2 enough) in
-        let is = gives h in
+        let tried = gives h in
         record {
-          number = rw found (m ∙ is .positions-are);
-          lent = rw found (laid-back list (length sums) 2 room is-room whole (differing ps) (is .laid));
-          told = rw found (two-set sums c e enough ∙ rw (is .francs-are, is .euros-are));
+          number = rw found (m ∙ tried .positions-are);
+          lent = rw found (laid-back list (length sums) 2 room is-room whole (differing ps) (tried .laid));
+          told = rw found (two-set sums c e enough ∙ rw (tried .francs-are, tried .euros-are));
         }

@@ -18,9 +18,9 @@ use Rattle.swiss.specs.Limits.{francs, euros}
 use Rattle.glance.specs.declared.Account.{Account}
 use Rattle.glance.specs.declared.Account.the-variants.{Unknown, At}
 use Rattle.packing.specs.Packing.{packedRefusal, packedPlace, packedLaying}
-use Rattle.numbers.specs.Made.{qrrPart, madeQrr, scorPart, madeScor, ibanParts, madeIban}
-use Rattle.numbers.specs.Making.{makeAnswer}
-use Rattle.packing.specs.Telling.{Told, IsTold, toldOnto}
+use Rattle.making.specs.Made.{qrrPart, madeQrr, scorPart, madeScor, ibanParts, madeIban}
+use Rattle.making.specs.Making.{makeAnswer}
+use Rattle.packing.specs.Telling.{Reply, IsReply, replyOnto}
 use Rattle.pile.specs.Pile.{pileNumbers, pileFindings, filledBy}
 use Rattle.mender.specs.declared.Repairs.{Repairs}
 use Rattle.mender.specs.Mending.{mend, mendFindings}
@@ -73,14 +73,14 @@ abbrev pub toldSums : List Bytes → List ℕ
 toldSums ps = sum francs ps ∷ sum euros ps ∷ []
 
 -- of a season: what is found of the bills and of room for their positions, and last of all room for the two sums
-unfoldable pub seasonAnswer : Bytes → List ℕ → ℕ → List ℕ → List ℕ → Told
+unfoldable pub seasonAnswer : Bytes → List ℕ → ℕ → List ℕ → List ℕ → Reply
 seasonAnswer buffer places count list sums =
     let ps = handed buffer places count in
-    toldOnto (differing ps) (toldSums ps) list sums (first (seasonFindings buffer places count (length list) ++ (noRoom (length sums) 2 ∷ [])))
+    replyOnto (differing ps) (toldSums ps) list sums (first (seasonFindings buffer places count (length list) ++ (noRoom (length sums) 2 ∷ [])))
 
 -- the number r, the list and the sums afterwards
 abbrev pub IsPackedTried : Bytes → List ℕ → ℕ → List ℕ → List ℕ → ℕ → List ℕ → List ℕ → Type 0
-IsPackedTried buffer places count list sums r after told = IsTold (seasonAnswer buffer places count list sums) r after told
+IsPackedTried buffer places count list sums r after told = IsReply (seasonAnswer buffer places count list sums) r after told
 
 -- so of what a call is lent
 abbrev pub IsPackedTriedTo : (buffer places : Both (RefT (List ℕ)) (RefT (List ℕ))) → ℕ → (list sums : Both (RefT (List ℕ)) (RefT (List ℕ))) → ℕ → Type 0
@@ -92,14 +92,14 @@ abbrev pub toldCounts : Counts → List ℕ
 toldCounts c = c .beneficiary ∷ c .transaction ∷ c .remittance ∷ c .cut ∷ c .replaced ∷ []
 
 -- of a payload, a destination and a list: what the fields find, and last of all room for the five counts
-unfoldable pub swiftAnswer : Layout → Bytes → Bytes → List ℕ → Told
+unfoldable pub swiftAnswer : Layout → Bytes → Bytes → List ℕ → Reply
 swiftAnswer L p dest list =
     let ls = linesOf (cut p) in
-    toldOnto (contents ls) (toldCounts (countsOf ls)) dest list (first (fieldFindings L p (length dest) ++ (noRoom (length list) 5 ∷ [])))
+    replyOnto (contents ls) (toldCounts (countsOf ls)) dest list (first (fieldFindings L p (length dest) ++ (noRoom (length list) 5 ∷ [])))
 
 -- the number r, the destination and the list afterwards
 abbrev pub IsPackedFields : Layout → Bytes → Bytes → List ℕ → ℕ → Bytes → List ℕ → Type 0
-IsPackedFields L p dest list r after counts = IsTold (swiftAnswer L p dest list) r after counts
+IsPackedFields L p dest list r after counts = IsReply (swiftAnswer L p dest list) r after counts
 
 -- so of what a call is lent
 abbrev pub IsPackedFieldsTo : Layout → (payload dest list : Both (RefT (List ℕ)) (RefT (List ℕ))) → ℕ → Type 0
@@ -110,13 +110,13 @@ abbrev pub toldRepairs : Repairs → List ℕ
 toldRepairs c = c .breaks ∷ c .spaces ∷ c .lines ∷ []
 
 -- of a payload, a destination and a list: what the mender finds, and last of all room for the three counts
-unfoldable pub mendTold : Bytes → Bytes → List ℕ → Told
+unfoldable pub mendTold : Bytes → Bytes → List ℕ → Reply
 mendTold p dest list =
     let m = mend p in
-    toldOnto (m .bytes) (toldRepairs (m .repairs)) dest list (first (mendFindings p (m .bytes) (length dest) ++ (noRoom (length list) 3 ∷ [])))
+    replyOnto (m .bytes) (toldRepairs (m .repairs)) dest list (first (mendFindings p (m .bytes) (length dest) ++ (noRoom (length list) 3 ∷ [])))
 
 abbrev pub IsPackedMended : Bytes → Bytes → List ℕ → ℕ → Bytes → List ℕ → Type 0
-IsPackedMended p dest list r after counts = IsTold (mendTold p dest list) r after counts
+IsPackedMended p dest list r after counts = IsReply (mendTold p dest list) r after counts
 
 -- so of what a call is lent
 abbrev pub IsPackedMendedTo : (payload dest list : Both (RefT (List ℕ)) (RefT (List ℕ))) → ℕ → Type 0

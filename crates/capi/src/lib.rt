@@ -3,12 +3,12 @@
 // season, SWIFT fields, a payload that comes in bits, and one that is mended.
 use glance::Account;
 use glance::glance;
+use making::make_iban;
+use making::make_qrr;
+use making::make_scor;
 use mender::Mended;
 use mender::Repairs;
 use mender::mend;
-use numbers::make_iban;
-use numbers::make_qrr;
-use numbers::make_scor;
 use packing::break_for;
 use packing::packed_answer;
 use packing::packed_laying;
@@ -38,13 +38,13 @@ ghost use mathlib.Core.Path.{_≡_};
 ghost use Rattle.sieve.specs.Verdict.{verdict};
 ghost use Rattle.swiss.specs.Swiss.{swiss};
 ghost use Rattle.packing.specs.Packing.{packed};
-ghost use Rattle.packing.specs.Calls.{packedLine, IsPackedRead, IsPackedWrittenTo};
+ghost use Rattle.packing.specs.Calls.{packedLineIn, IsPackedRead, IsPackedWrittenTo};
 ghost use Rattle.glance.specs.Glance.{glance, accountAs};
 ghost use Rattle.capi.specs.Calls.{packedAccount, IsPackedQrr, IsPackedScor, IsPackedIban, IsPackedPiledTo};
 ghost use Rattle.capi.specs.Calls.{IsPackedTriedTo, toldCounts, IsPackedFieldsTo, toldRepairs, IsPackedMendedTo};
 ghost use Rattle.mender.specs.Promised.{AreFew};
 ghost use Rattle.swift.specs.Promised.{AreSmall};
-ghost use Rattle.scanner.specs.Scanning.{heldIn, handed};
+ghost use Rattle.scanner.specs.Scanning.{heldIn, handedOver};
 
 // The line count of an accepted payload; of a refused one 1000 times the refusal plus the line.
 #[no_mangle]
@@ -58,7 +58,7 @@ pub extern "C" fn qrbill_read(payload: &[u8]) -> u32
 // or the number is not 1 to 34.
 #[no_mangle]
 pub extern "C" fn qrbill_line(payload: &[u8], line: u32) -> u32
-    ensures { λ r. ⌜ r ≡ packedLine swiss (now (payload .entry)) line (verdict swiss (now (payload .entry))) ⌝ }
+    ensures { λ r. ⌜ r ≡ packedLineIn swiss (now (payload .entry)) line ⌝ }
 {
     let mut places = [0; WALK_NUMBERS];
     let answer = judge(payload, &mut places);
@@ -211,7 +211,7 @@ pub extern "C" fn qrbill_swift(payload: &[u8], dest: &mut [u8], list: &mut [u16]
 #[no_mangle]
 pub extern "C" fn qrbill_hand(held: &mut [u8], length: usize, bit: &[u8]) -> usize
     ensures { λ r.
-        ⌜ heldIn (now (held .exit)) r ≡ handed (heldIn (now (held .entry)) length) (now (bit .entry)) ⌝ }
+        ⌜ heldIn (now (held .exit)) r ≡ handedOver (heldIn (now (held .entry)) length) (now (bit .entry)) ⌝ }
 {
     hand_over(held, length, bit)
 }

@@ -127,7 +127,7 @@ fn pair(low: u8, high: u8) -> usize
 }
 
 // The number of two bytes, the low one first, that stands behind i others; 0 past the last.
-fn number(bytes: &[u8], i: usize) -> u16 {
+fn number_at(bytes: &[u8], i: usize) -> u16 {
     if i < bytes.len() / 2 {
         return pair(bytes[2 * i], bytes[2 * i + 1]) as u16;
     }
@@ -137,7 +137,7 @@ fn number(bytes: &[u8], i: usize) -> u16 {
 fn fill(list: &mut [u16], bytes: &[u8]) {
     let mut i = 0;
     while i < list.len() {
-        list[i] = number(bytes, i);
+        list[i] = number_at(bytes, i);
         i += 1;
     }
 }
@@ -194,7 +194,7 @@ fn scanned(sizes: &[u8], payload: &[u8]) -> Scan {
     let mut at = 0;
     let mut i = 0;
     while i < sizes.len() / 2 {
-        let to = at + at_most(number(sizes, i) as usize, payload.len() - at);
+        let to = at + at_most(number_at(sizes, i) as usize, payload.len() - at);
         scan = scan.hand(&payload[at..to]);
         at = to;
         i += 1;
@@ -250,14 +250,14 @@ fn run_mapping(payload: &[u8], edition: Edition) {
 // The places of four bills: start and length of each.
 fn four_places(bytes: &[u8]) -> [u32; 8] {
     [
-        number(bytes, 0) as u32,
-        number(bytes, 1) as u32,
-        number(bytes, 2) as u32,
-        number(bytes, 3) as u32,
-        number(bytes, 4) as u32,
-        number(bytes, 5) as u32,
-        number(bytes, 6) as u32,
-        number(bytes, 7) as u32,
+        number_at(bytes, 0) as u32,
+        number_at(bytes, 1) as u32,
+        number_at(bytes, 2) as u32,
+        number_at(bytes, 3) as u32,
+        number_at(bytes, 4) as u32,
+        number_at(bytes, 5) as u32,
+        number_at(bytes, 6) as u32,
+        number_at(bytes, 7) as u32,
     ]
 }
 

@@ -33,20 +33,20 @@ module _ (s : Bytes) (at : ℕ) where
 
   pub too-few : length s ≤ at + 1 → accents (drop at s) ≡ 0
   unfolding accents
-  too-few h = go (ltb at (length s)) refl
+  too-few h = by-cases (ltb at (length s)) refl
     where
-      go : (b : Bool) → ltb at (length s) ≡ b → accents (drop at s) ≡ 0
-      go true e = rw (next s at (ltb-true _ _ e), drop-of-length-le s h)
-      go false e = rw (drop-of-length-le s (ltb-false _ _ e))
+      by-cases : (b : Bool) → ltb at (length s) ≡ b → accents (drop at s) ≡ 0
+      by-cases true e = rw (next s at (ltb-true _ _ e), drop-of-length-le s h)
+      by-cases false e = rw (drop-of-length-le s (ltb-false _ _ e))
 
   -- a row that is not empty, by its first character
   pub row-goes-on : (n : ℕ) → accents (drop at s) ≡ suc n → (at + 1 < length s) × (accent (getD s at 0) (getD s (at + 1) 0) ≡ true) × (accents (drop (at + 2) s) ≡ n)
-  row-goes-on n e = go (ltb (at + 1) (length s)) (accent (getD s at 0) (getD s (at + 1) 0)) refl refl
+  row-goes-on n e = by-cases (ltb (at + 1) (length s)) (accent (getD s at 0) (getD s (at + 1) 0)) refl refl
     where
-      go : (b d : Bool) → ltb (at + 1) (length s) ≡ b → accent (getD s at 0) (getD s (at + 1) 0) ≡ d → (at + 1 < length s) × (accent (getD s at 0) (getD s (at + 1) 0) ≡ true) × (accents (drop (at + 2) s) ≡ n)
-      go true true p q = let h = ltb-true (at + 1) (length s) p in (h, q, omega (arith, one-accent h q))
-      go true false p q = absurd (omega (arith, no-accent (ltb-true (at + 1) (length s) p) q))
-      go false d p q = absurd (omega (arith, too-few (ltb-false (at + 1) (length s) p)))
+      by-cases : (b d : Bool) → ltb (at + 1) (length s) ≡ b → accent (getD s at 0) (getD s (at + 1) 0) ≡ d → (at + 1 < length s) × (accent (getD s at 0) (getD s (at + 1) 0) ≡ true) × (accents (drop (at + 2) s) ≡ n)
+      by-cases true true p q = let h = ltb-true (at + 1) (length s) p in (h, q, omega (arith, one-accent h q))
+      by-cases true false p q = absurd (omega (arith, no-accent (ltb-true (at + 1) (length s) p) q))
+      by-cases false d p q = absurd (omega (arith, too-few (ltb-false (at + 1) (length s) p)))
 
   -- it is a character of two bytes
   pub accent-width : at + 1 < length s → accent (getD s at 0) (getD s (at + 1) 0) ≡ true → latin (drop at s) ≡ 2

@@ -20,13 +20,13 @@ module _ (f : ℕ → Bool) where
   pub in-run : (i : ℕ) (t : Bytes) → i < run f t → f (getD t i 0) ≡ true
   unfolding run
   in-run i [] h = absurd (omega arith)
-  in-run i (x ∷ t) h = go i (f x) refl h (λ j. in-run j t)
+  in-run i (x ∷ t) h = along i (f x) refl h (λ j. in-run j t)
     where
-      go : (i : ℕ) (b : Bool) → f x ≡ b → i < run f (x ∷ t) → ((j : ℕ) → j < run f t → f (getD t j 0) ≡ true) → f (getD (x ∷ t) i 0) ≡ true
-      go zero true q k more = q
-      go (suc j) true q k more = let p = rw q at k in more j (omega arith)
-      go zero false q k more = let p = rw q at k in absurd (omega arith)
-      go (suc j) false q k more = let p = rw q at k in absurd (omega arith)
+      along : (i : ℕ) (b : Bool) → f x ≡ b → i < run f (x ∷ t) → ((j : ℕ) → j < run f t → f (getD t j 0) ≡ true) → f (getD (x ∷ t) i 0) ≡ true
+      along zero true q k more = q
+      along (suc j) true q k more = let p = rw q at k in more j (omega arith)
+      along zero false q k more = let p = rw q at k in absurd (omega arith)
+      along (suc j) false q k more = let p = rw q at k in absurd (omega arith)
 
   module _ (s : Bytes) (at : ℕ) where
     pub passed : at < length s → f (getD s at 0) ≡ true → at + run f (drop at s) ≡ at + 1 + run f (drop (at + 1) s)

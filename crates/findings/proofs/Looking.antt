@@ -17,7 +17,7 @@ use Rattle.sieve.specs.Paper.{paperFault}
 use Rattle.sieve.proofs.Firsts.{first-append}
 use Rattle.sieve.proofs.Bounds.{is-within}
 use Rattle.findings.specs.declared.Finding.{Finding}
-use Rattle.findings.specs.Findings.{small, after, finds, faultOf}
+use Rattle.findings.specs.Findings.{asFinding, thenRule, finds, faultOf}
 
 abbrev pub kept : Finding
 kept = record { number = 0; line = 0 }
@@ -25,7 +25,7 @@ kept = record { number = 0; line = 0 }
 -- one rule after another, after what was found before
 unfoldable pub looked : Finding → List Rule → List Bytes → Finding
 looked f [] ls = f
-looked f (r ∷ rs) ls = looked (after f (r .broken ls) (r .number) (r .line)) rs ls
+looked f (r ∷ rs) ls = looked (thenRule f (r .broken ls) (r .number) (r .line)) rs ls
 
 -- the numbers that rules about lines have
 abbrev ofRule : ℕ → Bool
@@ -38,7 +38,7 @@ numbered (r ∷ rs) = ofRule (r .number) && numbered rs
 
 -- what was found before stays
 stays : (f : Finding) (rs : List Rule) (ls : List Bytes) → eqb (f .number) 0 ≡ false → looked f rs ls ≡ f
-unfolding looked after
+unfolding looked thenRule
 stays f [] ls h = refl
 stays f (r ∷ rs) ls h = rw (h, looked) (stays f rs ls h)
 
@@ -54,32 +54,32 @@ says-to-13 n i h =
     (λ d. or 10 _ _ d (λ e. rw e) (λ f. or 11 _ _ f (λ e. rw e) (λ g. or 12 _ _ g (λ e. rw e) (λ j. let last : n ≡ 13 = le-antisymm most j in rw last)))))))
   where
     or : (k : ℕ) (f g : Fault) → k ≤ n → (n ≡ k → paperFault f ≡ under n i) → (suc k ≤ n → paperFault g ≡ under n i) → paperFault (cond (eqb n k) f g) ≡ under n i
-    or k f g least here there = go (eqb n k) refl
+    or k f g least here there = by-cases (eqb n k) refl
       where
-        go : (b : Bool) → eqb n k ≡ b → paperFault (cond b f g) ≡ under n i
-        go true e = here (eqb-true n k e)
-        go false e = there (let other = eqb-false n k e in omega (arith, other, least))
+        by-cases : (b : Bool) → eqb n k ≡ b → paperFault (cond b f g) ≡ under n i
+        by-cases true e = here (eqb-true n k e)
+        by-cases false e = there (let other = eqb-false n k e in omega (arith, other, least))
 
 fault-says : (n i : ℕ) → ofRule n ≡ true → paperFault (faultOf n i) ≡ under n i
-fault-says n i h = go (within 6 13 n) refl h
+fault-says n i h = by-cases (within 6 13 n) refl h
   where
-    go : (b : Bool) → within 6 13 n ≡ b → (b || eqb n 17) ≡ true → paperFault (faultOf n i) ≡ under n i
-    go true e h = says-to-13 n i e
-    go false e h = let is-17 = eqb-true n 17 h in rw is-17
+    by-cases : (b : Bool) → within 6 13 n ≡ b → (b || eqb n 17) ≡ true → paperFault (faultOf n i) ≡ under n i
+    by-cases true e h = says-to-13 n i e
+    by-cases false e h = let is-17 = eqb-true n 17 h in rw is-17
 
 pub looked-finds : (rs : List Rule) (ls : List Bytes) → numbered rs ≡ true → looked kept rs ls ≡ finds rs ls
-unfolding looked after finds first numbered
+unfolding looked thenRule finds first numbered
 looked-finds [] ls h = refl
-looked-finds (r ∷ rs) ls h = let (a, b) = and-eq-true-iff _ _ .0 h in go (r .broken ls) refl (ne-eqb (r .number) 0 (not-0 (r .number) a)) (looked-finds rs ls b)
+looked-finds (r ∷ rs) ls h = let (a, b) = and-eq-true-iff _ _ .0 h in by-cases (r .broken ls) refl (ne-eqb (r .number) 0 (not-0 (r .number) a)) (looked-finds rs ls b)
   where
-    go : (b : Bool) → r .broken ls ≡ b → eqb (r .number) 0 ≡ false → looked kept rs ls ≡ finds rs ls → looked kept (r ∷ rs) ls ≡ finds (r ∷ rs) ls
-    go true e n ih = rw (e, looked, finds, first) (stays _ rs ls n)
-    go false e n ih = rw (e, looked, finds, first) ih
+    by-cases : (b : Bool) → r .broken ls ≡ b → eqb (r .number) 0 ≡ false → looked kept rs ls ≡ finds rs ls → looked kept (r ∷ rs) ls ≡ finds (r ∷ rs) ls
+    by-cases true e n ih = rw (e, looked, finds, first) (stays _ rs ls n)
+    by-cases false e n ih = rw (e, looked, finds, first) ih
 
--- the same of a long list, step by step: what is found after each rule, and at the end g
+-- a long list of rules, step by step: what is found after each rule, and at the end g
 unfoldable pub Steps : Finding → List Rule → List Bytes → Finding → Type 0
 Steps f [] ls g = f ≡ g
-Steps f (r ∷ rs) ls g = (h : Finding) × (h ≡ after f (r .broken ls) (r .number) (r .line)) × Steps h rs ls g
+Steps f (r ∷ rs) ls g = (h : Finding) × (h ≡ thenRule f (r .broken ls) (r .number) (r .line)) × Steps h rs ls g
 
 stepped : (f g : Finding) (rs : List Rule) (ls : List Bytes) → Steps f rs ls g → g ≡ looked f rs ls
 unfolding Steps looked
@@ -102,28 +102,28 @@ module _ (ls : List Bytes) where
   said : (rs : List Rule) (q : Refusal) → numbered rs ≡ true → firstOf rs ≡ some q → Said rs q
   unfolding numbered first
   said [] q h e = absurd (Option·none-ne-some q e)
-  said (r ∷ rs) q h e = let (a, b) = and-eq-true-iff _ _ .0 h in go (r .broken ls) refl a (said rs q b)
+  said (r ∷ rs) q h e = let (a, b) = and-eq-true-iff _ _ .0 h in by-cases (r .broken ls) refl a (said rs q b)
     where
-      go : (b : Bool) → r .broken ls ≡ b → ofRule (r .number) ≡ true → (firstOf rs ≡ some q → Said rs q) → Said (r ∷ rs) q
-      go true f a ih = let s : under (r .number) (r .line) ≡ q = Option·some-injective _ _ (rw (f, first) at e) in rw (← s) (record { known = a; is = refl })
-      go false f a ih = let s = ih (rw (f, first) at e) in record { known = s .known; is = s .is }
+      by-cases : (b : Bool) → r .broken ls ≡ b → ofRule (r .number) ≡ true → (firstOf rs ≡ some q → Said rs q) → Said (r ∷ rs) q
+      by-cases true f a ih = let s : under (r .number) (r .line) ≡ q = Option·some-injective _ _ (rw (f, first) at e) in rw (← s) (record { known = a; is = refl })
+      by-cases false f a ih = let s = ih (rw (f, first) at e) in record { known = s .known; is = s .is }
 
   pub found-nothing : (rs : List Rule) → numbered rs ≡ true → finds rs ls .number ≡ 0 → firstOf rs ≡ none
   unfolding finds
-  found-nothing rs h = go (firstOf rs) refl
+  found-nothing rs h = by-cases (firstOf rs) refl
     where
-      go : (o : Option Refusal) → firstOf rs ≡ o → small o .number ≡ 0 → o ≡ none
-      go none e z = refl
-      go (some q) e z = absurd (not-0 (q .number) (said rs q h e .known) z)
+      by-cases : (o : Option Refusal) → firstOf rs ≡ o → asFinding o .number ≡ 0 → o ≡ none
+      by-cases none e z = refl
+      by-cases (some q) e z = absurd (not-0 (q .number) (said rs q h e .known) z)
 
   -- else the fault that the code makes of it is what they find
   pub found-fault : (rs : List Rule) → numbered rs ≡ true → (finds rs ls .number ≡ 0 → ⊥) → firstOf rs ≡ some (paperFault (faultOf (finds rs ls .number) (finds rs ls .line)))
   unfolding finds
-  found-fault rs h = go (firstOf rs) refl
+  found-fault rs h = by-cases (firstOf rs) refl
     where
-      go : (o : Option Refusal) → firstOf rs ≡ o → (small o .number ≡ 0 → ⊥) → o ≡ some (paperFault (faultOf (small o .number) (small o .line)))
-      go none e z = absurd (z refl)
-      go (some q) e z = let s = said rs q h e in ap some (s .is ∙ sym (fault-says (q .number) (q .line) (s .known)))
+      by-cases : (o : Option Refusal) → firstOf rs ≡ o → (asFinding o .number ≡ 0 → ⊥) → o ≡ some (paperFault (faultOf (asFinding o .number) (asFinding o .line)))
+      by-cases none e z = absurd (z refl)
+      by-cases (some q) e z = let s = said rs q h e in ap some (s .is ∙ sym (fault-says (q .number) (q .line) (s .known)))
 
   -- group after group
 
@@ -133,18 +133,18 @@ module _ (ls : List Bytes) where
   -- what a group finds stands for all
   pub group-stops : {f : Finding} (rs ss : List Rule) → f ≡ finds rs ls → (f .number ≡ 0 → ⊥) → f ≡ finds (rs ++ ss) ls
   unfolding finds first
-  group-stops {f} rs ss is h = go (firstOf rs) refl is
+  group-stops {f} rs ss is h = by-cases (firstOf rs) refl is
     where
-      go : (o : Option Refusal) → firstOf rs ≡ o → f ≡ small o → f ≡ finds (rs ++ ss) ls
-      go none e z = absurd (h (ap (λ g. g .number) z))
-      go (some q) e z = rw (groups rs ss, e, first) z
+      by-cases : (o : Option Refusal) → firstOf rs ≡ o → f ≡ asFinding o → f ≡ finds (rs ++ ss) ls
+      by-cases none e z = absurd (h (ap (λ g. g .number) z))
+      by-cases (some q) e z = rw (groups rs ss, e, first) z
 
   -- a group in which nothing is found is passed
   pub group-passed : {f g : Finding} (rs ss : List Rule) → numbered rs ≡ true → f ≡ finds rs ls → f .number ≡ 0 → g ≡ finds ss ls → g ≡ finds (rs ++ ss) ls
   unfolding finds first
   group-passed rs ss h is z e = rw (groups rs ss, found-nothing rs h (sym (ap (λ g. g .number) is) ∙ z), first) e
 
-  -- the same of a group that was looked at rule after rule
+  -- a group that was looked at rule after rule
 
   pub chain-stops : {f : Finding} (rs ss : List Rule) → numbered rs ≡ true → f ≡ looked kept rs ls → (f .number ≡ 0 → ⊥) → f ≡ finds (rs ++ ss) ls
   chain-stops rs ss h is = group-stops rs ss (is ∙ looked-finds rs ls h)

@@ -13,17 +13,17 @@ use Rattle.sieve.specs.declared.Fault.the-variants.{NoBytes, NotFixedText, NotE
 use Rattle.findings.specs.declared.Finding.{Finding}
 
 -- a refusal in small: its number and its line, or twice 0 where there is none
-abbrev pub small : Option Refusal → Finding
-small none = record { number = 0; line = 0 }
-small (some r) = record { number = r .number; line = r .line }
+abbrev pub asFinding : Option Refusal → Finding
+asFinding none = record { number = 0; line = 0 }
+asFinding (some r) = record { number = r .number; line = r .line }
 
 -- what was found before; else the number and the line of one rule more, if it is broken
-unfoldable pub after : Finding → Bool → ℕ → ℕ → Finding
-after before broken number line = cond (eqb (before .number) 0) (small (found broken (under number line))) before
+unfoldable pub thenRule : Finding → Bool → ℕ → ℕ → Finding
+thenRule before broken number line = cond (eqb (before .number) 0) (asFinding (found broken (under number line))) before
 
 -- what rules find first in the lines of a bill
 unfoldable pub finds : List Rule → List Bytes → Finding
-finds rs ls = small (first (map (aboutLines ls) rs))
+finds rs ls = asFinding (first (map (aboutLines ls) rs))
 
 -- lines that stand from line n on, behind others of which nothing is said
 abbrev pub from : ℕ → List Bytes → List Bytes

@@ -9,7 +9,7 @@ ghost use lib.Dec.{ltb};
 ghost use Rattle.sieve.specs.Bytes.{same};
 ghost use Rattle.sieve.specs.Characters.{characters};
 ghost use Rattle.sieve.specs.Rules.{noText};
-ghost use Rattle.findings.specs.Findings.{after, faultOf};
+ghost use Rattle.findings.specs.Findings.{thenRule, faultOf};
 
 // What the rules that were looked at so far find: the number and the line of the first that is broken, or twice 0. It is
 // small, since it goes from rule to rule; the fault is made once, of what is found in the end.
@@ -22,7 +22,7 @@ pub const KEPT: Finding = Finding { number: 0, line: 0 };
 
 // One rule more.
 pub fn rule(before: Finding, broken: bool, number: usize, line: usize) -> Finding
-    ensures { λ r. ⌜ r ≡ after before broken number line ⌝ }
+    ensures { λ r. ⌜ r ≡ thenRule before broken number line ⌝ }
 {
     if before.number != 0 {
         return before;
@@ -35,42 +35,42 @@ pub fn rule(before: Finding, broken: bool, number: usize, line: usize) -> Findin
 
 // Line n is a fixed text.
 pub fn fixed(before: Finding, l: &[u8], n: usize, text: &[u8]) -> Finding
-    ensures { λ r. ⌜ r ≡ after before (not (same (now (l .entry)) (now (text .entry)))) 6 n ⌝ }
+    ensures { λ r. ⌜ r ≡ thenRule before (not (same (now (l .entry)) (now (text .entry)))) 6 n ⌝ }
 {
     rule(before, !same(l, text), 6, n)
 }
 
 // Line n is empty, when that is asked.
 pub fn empty(before: Finding, l: &[u8], n: usize, when: bool) -> Finding
-    ensures { λ r. ⌜ r ≡ after before (when && not (noText (now (l .entry)))) 7 n ⌝ }
+    ensures { λ r. ⌜ r ≡ thenRule before (when && not (noText (now (l .entry)))) 7 n ⌝ }
 {
     rule(before, when & !(l.len() == 0), 7, n)
 }
 
 // Line n is not empty, when that is asked.
 pub fn filled(before: Finding, l: &[u8], n: usize, when: bool) -> Finding
-    ensures { λ r. ⌜ r ≡ after before (when && noText (now (l .entry))) 8 n ⌝ }
+    ensures { λ r. ⌜ r ≡ thenRule before (when && noText (now (l .entry))) 8 n ⌝ }
 {
     rule(before, when & (l.len() == 0), 8, n)
 }
 
 // Line n has at most so many characters.
 pub fn at_most(before: Finding, l: &[u8], n: usize, most: usize) -> Finding
-    ensures { λ r. ⌜ r ≡ after before (ltb most (characters (now (l .entry)))) 9 n ⌝ }
+    ensures { λ r. ⌜ r ≡ thenRule before (ltb most (characters (now (l .entry)))) 9 n ⌝ }
 {
     rule(before, longer(l, most), 9, n)
 }
 
 // Line n is empty or of its form.
 pub fn formed(before: Finding, l: &[u8], n: usize, right: bool) -> Finding
-    ensures { λ r. ⌜ r ≡ after before (not (noText (now (l .entry))) && not right) 10 n ⌝ }
+    ensures { λ r. ⌜ r ≡ thenRule before (not (noText (now (l .entry))) && not right) 10 n ⌝ }
 {
     rule(before, !(l.len() == 0) & !right, 10, n)
 }
 
 // Line n has its check digits.
 pub fn checked(before: Finding, n: usize, right: bool) -> Finding
-    ensures { λ r. ⌜ r ≡ after before (not right) 11 n ⌝ }
+    ensures { λ r. ⌜ r ≡ thenRule before (not right) 11 n ⌝ }
 {
     rule(before, !right, 11, n)
 }

@@ -16,7 +16,7 @@ ghost use mathlib.Core.Path.{_≡_};
 ghost use Rattle.sieve.specs.Verdict.{verdict};
 ghost use Rattle.girocode.specs.Girocode.{girocode};
 ghost use Rattle.packing.specs.Packing.{packed};
-ghost use Rattle.packing.specs.Calls.{packedLine, IsPackedRead, IsPackedWrittenTo};
+ghost use Rattle.packing.specs.Calls.{packedLineIn, IsPackedRead, IsPackedWrittenTo};
 
 // The line count of an accepted girocode; of a refused one 1000 times the refusal plus the line.
 #[no_mangle]
@@ -30,7 +30,7 @@ pub extern "C" fn girocode_read(payload: &[u8]) -> u32
 // number is not 1 to 12.
 #[no_mangle]
 pub extern "C" fn girocode_line(payload: &[u8], line: u32) -> u32
-    ensures { λ r. ⌜ r ≡ packedLine girocode (now (payload .entry)) line (verdict girocode (now (payload .entry))) ⌝ }
+    ensures { λ r. ⌜ r ≡ packedLineIn girocode (now (payload .entry)) line ⌝ }
 {
     let mut places = [0; WALK_NUMBERS];
     let answer = judge(payload, &mut places);

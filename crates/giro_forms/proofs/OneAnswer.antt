@@ -15,5 +15,5 @@ one-iban κs a x y v w h k = (h ∙ sym k, refl)
 pub one-amount : OneAnswer fn.amount.ended fn.amount.Reads.Learnt
 one-amount κs a x y v w h k = (h ∙ sym k, refl)
 
-pub one-plain : OneAnswer fn.plain.ended fn.plain.Reads.Learnt
-one-plain κs a x y v w h k = (h ∙ sym k, refl)
+pub one-basic : OneAnswer fn.basic.ended fn.basic.Reads.Learnt
+one-basic κs a x y v w h k = (h ∙ sym k, refl)

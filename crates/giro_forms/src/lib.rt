@@ -4,7 +4,7 @@ use runs::Kind;
 use runs::every;
 use runs::same;
 ghost use mathlib.Core.Path.{_≡_};
-ghost use Rattle.girocode.specs.Forms.{unreadCoding, bic, iban, whole, fraction, parted, amount, plain};
+ghost use Rattle.girocode.specs.Forms.{unreadCoding, bic, iban, whole, fraction, withFraction, amount, basic};
 
 // A coding that is not read: 3 to 8.
 pub fn unread_coding(s: &[u8]) -> bool
@@ -27,10 +27,10 @@ pub fn bic(s: &[u8]) -> bool
 pub fn iban(s: &[u8]) -> bool
     ensures { λ r. ⌜ r ≡ iban (now (s .entry)) ⌝ }
 {
-    if s.len() < 5 {
+    if s.len() < limits::IBAN_FEWEST {
         return false;
     }
-    (s.len() <= 34)
+    (s.len() <= limits::IBAN_MOST)
         & every(Kind::Capital, &s[0..2])
         & every(Kind::Digit, &s[2..4])
         & every(Kind::DigitOrCapital, &s[4..])
@@ -58,8 +58,8 @@ fn fraction(s: &[u8]) -> bool
 }
 
 // A whole number, and a fraction that is the last n bytes.
-fn parted(n: usize, s: &[u8]) -> bool
-    ensures { λ r. ⌜ r ≡ parted n (now (s .entry)) ⌝ }
+fn with_fraction(n: usize, s: &[u8]) -> bool
+    ensures { λ r. ⌜ r ≡ withFraction n (now (s .entry)) ⌝ }
 {
     if s.len() < n {
         return false;
@@ -76,12 +76,14 @@ pub fn amount(s: &[u8]) -> bool
         return false;
     }
     let v = &s[3..];
-    same(&s[0..3], &limits::EURO) & (whole(v) | parted(2, v) | parted(3, v)) & !same(v, b"0")
+    same(&s[0..3], &limits::EURO)
+        & (whole(v) | with_fraction(2, v) | with_fraction(3, v))
+        & !same(v, b"0")
 }
 
 // Bytes 20 to 7E only.
-pub fn plain(s: &[u8]) -> bool
-    ensures { λ r. ⌜ r ≡ plain (now (s .entry)) ⌝ }
+pub fn basic(s: &[u8]) -> bool
+    ensures { λ r. ⌜ r ≡ basic (now (s .entry)) ⌝ }
 {
     every(Kind::Plain, s)
 }

@@ -2,12 +2,12 @@
 use findings::fault_of;
 use giro_rules::rules;
 use girocode::limits;
+use lines::line_place;
 use places::clear;
 use runs::same;
 use sieve::Answer;
 use sieve::Charset;
 use sieve::WALK_NUMBERS;
-use text::line_place;
 use whole::whole;
 ghost use mathlib.Core.Path.{_≡_};
 ghost use Rattle.sieve.specs.Lines.{cut, linesOf};

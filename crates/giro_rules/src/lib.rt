@@ -1,6 +1,5 @@
 // The rules about a girocode's lines, group by group of lines, in the order of the sieve. Once a rule is broken, later
 // groups are left out.
-use digits::checks97;
 use findings::Finding;
 use findings::KEPT;
 use findings::checked;
@@ -9,6 +8,7 @@ use findings::fixed;
 use findings::formed;
 use findings::rule;
 use girocode::limits;
+use mod97::checks97;
 use places::line;
 use runs::longer;
 use runs::same;
@@ -74,7 +74,7 @@ fn payment(payload: &[u8], places: &[u16; WALK_NUMBERS], count: usize, iso: bool
     let purpose = line(payload, places, 9);
     let f = filled(f, purpose, 9, count == 9);
     let f = rule(f, too_long(purpose, limits::PURPOSE_MOST, iso), 9, 9);
-    formed(f, purpose, 9, giro_forms::plain(purpose))
+    formed(f, purpose, 9, giro_forms::basic(purpose))
 }
 
 // Lines 10 to 12, of a payload of so many lines; then reference and text, which are not both filled.
@@ -85,7 +85,7 @@ fn information(payload: &[u8], places: &[u16; WALK_NUMBERS], count: usize, iso: 
     let reference = line(payload, places, 10);
     let f = filled(KEPT, reference, 10, count == 10);
     let f = rule(f, too_long(reference, limits::REFERENCE_MOST, iso), 9, 10);
-    let f = formed(f, reference, 10, giro_forms::plain(reference));
+    let f = formed(f, reference, 10, giro_forms::basic(reference));
     let text = line(payload, places, 11);
     let f = filled(f, text, 11, count == 11);
     let f = rule(f, too_long(text, limits::TEXT_MOST, iso), 9, 11);

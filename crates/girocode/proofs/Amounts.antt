@@ -13,11 +13,11 @@ use borrow.Author.Tests.{eqb-true, eqb-false, not-true, le-leb, ne-eqb}
 use Rattle.sieve.specs.Bytes.{Bytes, ascii, within, same, every}
 use Rattle.sieve.specs.Decimal.{digitByte, decimalIn}
 use Rattle.sieve.specs.Letters.{digit}
-use Rattle.sieve.specs.Mod97.{onto, number}
+use Rattle.sieve.specs.Mod97.{onto, numeral}
 use Rattle.sieve.proofs.Bounds.{is-within, same-is}
 use Rattle.sieve.proofs.Decimals.{digit-byte, number-below, digits, unled, digits-of-whole, Written, digits-written, written-unled}
 use Rattle.girocode.specs.Limits.{euro}
-use Rattle.girocode.specs.Forms.{whole, fraction, parted, amount}
+use Rattle.girocode.specs.Forms.{whole, fraction, withFraction, amount}
 use Rattle.girocode.specs.Shortest.{behind, shortest}
 
 -- whole euros
@@ -43,10 +43,10 @@ whole-parts w h =
     record { least = least; most = most; digital = digital; lead = lead }
 
 -- what is read of whole euros is written as it stood
-euros-again : (w : Bytes) → whole w ≡ true → euros (number 0 w) ≡ w
-euros-again w h = let x = whole-parts w h in sym (plain-digits (number 0 w)) ∙ digits-of-whole w 9 (x .least) (x .most) (x .digital) (x .lead)
+euros-again : (w : Bytes) → whole w ≡ true → euros (numeral 0 w) ≡ w
+euros-again w h = let x = whole-parts w h in sym (plain-digits (numeral 0 w)) ∙ digits-of-whole w 9 (x .least) (x .most) (x .digital) (x .lead)
 
-euros-few : (w : Bytes) → whole w ≡ true → number 0 w ≤ 999999999
+euros-few : (w : Bytes) → whole w ≡ true → numeral 0 w ≤ 999999999
 euros-few w h =
     let x = whole-parts w h in
     let short : 10 ^ (0 + length w) ≤ 10 ^ 9 = pow-le-pow-right (lit≤ tt) {j = 9} (omega (arith, x .most)) in
@@ -62,8 +62,8 @@ module _ (n : ℕ) (few : n < 10 ^ 9) where
       let lead : unled (euros n) ≡ true = rw (plain-digits n) at (written-unled n few) in
       rw (le-leb 1 (length (euros n)) (x .least), le-leb (length (euros n)) 9 (x .most), x .digital refl, lead)
 
-  pub euros-read : number 0 (euros n) ≡ n
-  unfolding number
+  pub euros-read : numeral 0 (euros n) ≡ n
+  unfolding numeral
   euros-read = euros-written .value
 
 -- what stands behind them
@@ -125,11 +125,11 @@ record Value (v : Bytes) : Type 0 where
   few : cents ≤ 99999999999
   is : ascii euro ++ v ≡ shortest cents
 
-together : (w f : Bytes) (n : ℕ) → whole w ≡ true → n < 100 → behind n ≡ f → 1 ≤ number 0 w + n → Value (w ++ f)
+together : (w f : Bytes) (n : ℕ) → whole w ≡ true → n < 100 → behind n ≡ f → 1 ≤ numeral 0 w + n → Value (w ++ f)
 unfolding shortest
 together w f n h few e some =
-    let m = 100 * number 0 w + n in
-    let q : m / 100 ≡ number 0 w = omega arith in
+    let m = 100 * numeral 0 w + n in
+    let q : m / 100 ≡ numeral 0 w = omega arith in
     let r : m % 100 ≡ n = omega arith in
     record { cents = m; some = omega arith; few = omega (arith, euros-few w h); is = rw (q, r, euros-again w h, e) }
 
@@ -141,11 +141,11 @@ zero-is = refl
 value-of-whole : (v : Bytes) → whole v ≡ true → v ≢ ascii "0" → Value v
 value-of-whole v h other = rw (append-nil v) at (together v [] 0 h (lit≤ tt) refl some)
   where
-    some : 1 ≤ number 0 v + 0
-    some = let z : number 0 v ≢ 0 = λ e. other (sym (euros-again v h) ∙ ap euros e ∙ zero-is) in omega (arith, z)
+    some : 1 ≤ numeral 0 v + 0
+    some = let z : numeral 0 v ≢ 0 = λ e. other (sym (euros-again v h) ∙ ap euros e ∙ zero-is) in omega (arith, z)
 
 -- a fraction of k bytes
-value-of-parted : (k : ℕ) (v : Bytes) → ((f : Bytes) → length f ≡ k → fraction f ≡ true → Behind f) → parted k v ≡ true → Value v
+value-of-parted : (k : ℕ) (v : Bytes) → ((f : Bytes) → length f ≡ k → fraction f ≡ true → Behind f) → withFraction k v ≡ true → Value v
 value-of-parted k v of h =
     let i = length v - k in
     let (w, f) = and-eq-true-iff (whole (take i v)) (fraction (drop i v)) .0 h in
@@ -154,20 +154,20 @@ value-of-parted k v of h =
     let b = of (drop i v) (omega (arith, length-drop i v)) f in
     rw (take-append-drop i v) at (together (take i v) (drop i v) (b .cents) w (b .few) (b .is) (omega (arith, b .some)))
 
-value-of : (v : Bytes) → (whole v || parted 2 v || parted 3 v) ≡ true → v ≢ ascii "0" → Value v
-value-of v h other = go (whole v) refl (parted 2 v) refl h
+value-of : (v : Bytes) → (whole v || withFraction 2 v || withFraction 3 v) ≡ true → v ≢ ascii "0" → Value v
+value-of v h other = by-cases (whole v) refl (withFraction 2 v) refl h
   where
-    go : (a : Bool) → whole v ≡ a → (b : Bool) → parted 2 v ≡ b → (a || b || parted 3 v) ≡ true → Value v
-    go true e b f h = value-of-whole v e other
-    go false e true f h = value-of-parted 2 v behind-of-two f
-    go false e false f h = value-of-parted 3 v behind-of-three h
+    by-cases : (a : Bool) → whole v ≡ a → (b : Bool) → withFraction 2 v ≡ b → (a || b || withFraction 3 v) ≡ true → Value v
+    by-cases true e b f h = value-of-whole v e other
+    by-cases false e true f h = value-of-parted 2 v behind-of-two f
+    by-cases false e false f h = value-of-parted 3 v behind-of-three h
 
 -- what line 8 may hold is the shortest text of a value of 0.01 to 999999999.99
 pub amount-is-shortest : (s : Bytes) → amount s ≡ true → (n : ℕ) × (1 ≤ n) × (n ≤ 99999999999) × (s ≡ shortest n)
 amount-is-shortest s h =
     let v = drop 3 s in
-    let (a, other) = and-eq-true-iff (same (take 3 s) (ascii euro) && (whole v || parted 2 v || parted 3 v)) (not (same v (ascii "0"))) .0 h in
-    let (e, form) = and-eq-true-iff (same (take 3 s) (ascii euro)) (whole v || parted 2 v || parted 3 v) .0 a in
+    let (a, other) = and-eq-true-iff (same (take 3 s) (ascii euro) && (whole v || withFraction 2 v || withFraction 3 v)) (not (same v (ascii "0"))) .0 h in
+    let (e, form) = and-eq-true-iff (same (take 3 s) (ascii euro)) (whole v || withFraction 2 v || withFraction 3 v) .0 a in
     let x = value-of v form (λ z. true≢false (sym (ap (λ (t : Bytes). same t (ascii "0")) z) ∙ not-true _ other)) in
     let is : s ≡ ascii euro ++ v = sym (take-append-drop 3 s) ∙ ap (λ (t : Bytes). t ++ v) (same-is (take 3 s) (ascii euro) e) in
     (x .cents, x .some, x .few, is ∙ x .is)
@@ -178,7 +178,7 @@ module _ (w f : Bytes) where
   before : length (w ++ f) - length f ≡ length w
   before = omega (arith, length-append w f)
 
-  parted-so : whole w ≡ true → fraction f ≡ true → parted (length f) (w ++ f) ≡ true
+  parted-so : whole w ≡ true → fraction f ≡ true → withFraction (length f) (w ++ f) ≡ true
   parted-so h g = rw (before, take-at w f (length w) refl, drop-at w f (length w) refl) (and-eq-true-iff (whole w) (fraction f) .1 (h, g))
 
   long : 1 ≤ length w → 1 ≤ length f → w ++ f ≢ ascii "0"
@@ -195,12 +195,12 @@ by-two a b c h = rw (h, or-true a)
 by-three : (a b c : Bool) → c ≡ true → (a || b || c) ≡ true
 by-three a b c h = rw (h, or-true (a || b))
 
-in-form : (v : Bytes) → (whole v || parted 2 v || parted 3 v) ≡ true → v ≢ ascii "0" → amount (ascii euro ++ v) ≡ true
-in-form v h other = go (same v (ascii "0")) refl
+in-form : (v : Bytes) → (whole v || withFraction 2 v || withFraction 3 v) ≡ true → v ≢ ascii "0" → amount (ascii euro ++ v) ≡ true
+in-form v h other = by-cases (same v (ascii "0")) refl
   where
-    go : (b : Bool) → same v (ascii "0") ≡ b → ((whole v || parted 2 v || parted 3 v) && not b) ≡ true
-    go true e = absurd (other (same-is v (ascii "0") e))
-    go false e = and-eq-true-iff (whole v || parted 2 v || parted 3 v) true .1 (h, refl)
+    by-cases : (b : Bool) → same v (ascii "0") ≡ b → ((whole v || withFraction 2 v || withFraction 3 v) && not b) ≡ true
+    by-cases true e = absurd (other (same-is v (ascii "0") e))
+    by-cases false e = and-eq-true-iff (whole v || withFraction 2 v || withFraction 3 v) true .1 (h, refl)
 
 module _ (n : ℕ) (some : 1 ≤ n) (few : n ≤ 99999999999) where
   abbrev w : Bytes
@@ -212,15 +212,15 @@ module _ (n : ℕ) (some : 1 ≤ n) (few : n ≤ 99999999999) where
   w-whole : whole w ≡ true
   w-whole = euros-whole (n / 100) (omega arith)
 
-  w-read : number 0 w ≡ n / 100
+  w-read : numeral 0 w ≡ n / 100
   w-read = euros-read (n / 100) (omega arith)
 
   not-nothing : c ≡ 0 → w ≢ ascii "0"
-  unfolding number
-  not-nothing z e = omega (arith, w-read, ap (number 0) e)
+  unfolding numeral
+  not-nothing z e = omega (arith, w-read, ap (numeral 0) e)
 
   no-cents : c ≡ 0 → amount (ascii euro ++ (w ++ behind c)) ≡ true
-  no-cents z = rw (z, append-nil w) (in-form w (by-one (whole w) (parted 2 w) (parted 3 w) w-whole) (not-nothing z))
+  no-cents z = rw (z, append-nil w) (in-form w (by-one (whole w) (withFraction 2 w) (withFraction 3 w) w-whole) (not-nothing z))
 
   one-digit : c ≢ 0 → c % 10 ≡ 0 → amount (ascii euro ++ (w ++ behind c)) ≡ true
   one-digit s z =
@@ -228,7 +228,7 @@ module _ (n : ℕ) (some : 1 ≤ n) (few : n ≤ 99999999999) where
       let f : Bytes = 46 ∷ d ∷ [] in
       let v = w ++ f in
       let right : fraction f ≡ true = rw (digit-byte (c / 10) (omega arith), ne-eqb d 48 (λ e. omega (arith, s))) in
-      rw (point-and-one c s z) (in-form v (by-two (whole v) (parted 2 v) (parted 3 v) (parted-so w f w-whole right)) (long w f (whole-parts w w-whole .least) (lit≤ tt)))
+      rw (point-and-one c s z) (in-form v (by-two (whole v) (withFraction 2 v) (withFraction 3 v) (parted-so w f w-whole right)) (long w f (whole-parts w w-whole .least) (lit≤ tt)))
 
   two-digits : c % 10 ≢ 0 → amount (ascii euro ++ (w ++ behind c)) ≡ true
   two-digits s =
@@ -237,16 +237,16 @@ module _ (n : ℕ) (some : 1 ≤ n) (few : n ≤ 99999999999) where
       let f : Bytes = 46 ∷ d ∷ e ∷ [] in
       let v = w ++ f in
       let right : fraction f ≡ true = rw (digit-byte (c / 10) (omega arith), digit-byte (c % 10) (omega arith), ne-eqb e 48 (λ z. omega (arith, s))) in
-      rw (point-and-two c s) (in-form v (by-three (whole v) (parted 2 v) (parted 3 v) (parted-so w f w-whole right)) (long w f (whole-parts w w-whole .least) (lit≤ tt)))
+      rw (point-and-two c s) (in-form v (by-three (whole v) (withFraction 2 v) (withFraction 3 v) (parted-so w f w-whole right)) (long w f (whole-parts w w-whole .least) (lit≤ tt)))
 
   shortest-amount : amount (shortest n) ≡ true
   unfolding shortest
-  shortest-amount = go (eqb c 0) refl (eqb (c % 10) 0) refl
+  shortest-amount = by-cases (eqb c 0) refl (eqb (c % 10) 0) refl
     where
-      go : (a : Bool) → eqb c 0 ≡ a → (b : Bool) → eqb (c % 10) 0 ≡ b → amount (ascii euro ++ (w ++ behind c)) ≡ true
-      go true x b y = no-cents (eqb-true c 0 x)
-      go false x true y = one-digit (eqb-false c 0 x) (eqb-true (c % 10) 0 y)
-      go false x false y = two-digits (eqb-false (c % 10) 0 y)
+      by-cases : (a : Bool) → eqb c 0 ≡ a → (b : Bool) → eqb (c % 10) 0 ≡ b → amount (ascii euro ++ (w ++ behind c)) ≡ true
+      by-cases true x b y = no-cents (eqb-true c 0 x)
+      by-cases false x true y = one-digit (eqb-false c 0 x) (eqb-true (c % 10) 0 y)
+      by-cases false x false y = two-digits (eqb-false (c % 10) 0 y)
 
 -- line 8 may hold the shortest text of each value of 0.01 to 999999999.99
 pub shortest-is-amount : (n : ℕ) → 1 ≤ n → n ≤ 99999999999 → amount (shortest n) ≡ true
@@ -264,8 +264,8 @@ valueFrom : ℕ → Bytes → ℕ
 valueFrom m [] = 100 * m
 valueFrom m (x ∷ s) = cond (eqb x 46) (100 * m + centsBehind s) (valueFrom (onto m x) s)
 
-value-after : (w t : Bytes) (m : ℕ) → every digit w ≡ true → valueFrom m (w ++ t) ≡ valueFrom (number m w) t
-unfolding number valueFrom
+value-after : (w t : Bytes) (m : ℕ) → every digit w ≡ true → valueFrom m (w ++ t) ≡ valueFrom (numeral m w) t
+unfolding numeral valueFrom
 value-after [] t m h = refl
 value-after (x ∷ w) t m h =
     let (hx, hw) = and-eq-true-iff (digit x) (every digit w) .0 h in
@@ -274,12 +274,12 @@ value-after (x ∷ w) t m h =
 
 value-behind : (m n : ℕ) → n < 100 → valueFrom m (behind n) ≡ 100 * m + n
 unfolding valueFrom centsBehind
-value-behind m n few = go (eqb n 0) refl (eqb (n % 10) 0) refl
+value-behind m n few = by-cases (eqb n 0) refl (eqb (n % 10) 0) refl
   where
-    go : (a : Bool) → eqb n 0 ≡ a → (b : Bool) → eqb (n % 10) 0 ≡ b → valueFrom m (behind n) ≡ 100 * m + n
-    go true x b y = let z = eqb-true n 0 x in rw z (omega arith)
-    go false x true y = rw (point-and-one n (eqb-false n 0 x) (eqb-true (n % 10) 0 y)) (omega (arith, eqb-true (n % 10) 0 y))
-    go false x false y = rw (point-and-two n (eqb-false (n % 10) 0 y)) (omega arith)
+    by-cases : (a : Bool) → eqb n 0 ≡ a → (b : Bool) → eqb (n % 10) 0 ≡ b → valueFrom m (behind n) ≡ 100 * m + n
+    by-cases true x b y = let z = eqb-true n 0 x in rw z (omega arith)
+    by-cases false x true y = rw (point-and-one n (eqb-false n 0 x) (eqb-true (n % 10) 0 y)) (omega (arith, eqb-true (n % 10) 0 y))
+    by-cases false x false y = rw (point-and-two n (eqb-false (n % 10) 0 y)) (omega arith)
 
 value-again : (n : ℕ) → n ≤ 99999999999 → valueFrom 0 (drop 3 (shortest n)) ≡ n
 unfolding shortest
@@ -287,7 +287,7 @@ value-again n few =
     let q = n / 100 in
     let written = euros-written q (omega arith) in
     value-after (euros q) (behind (n % 100)) 0 (written .digital refl)
-    ∙ (value-behind (number 0 (euros q)) (n % 100) (omega arith) ∙ omega (arith, euros-read q (omega arith)))
+    ∙ (value-behind (numeral 0 (euros q)) (n % 100) (omega arith) ∙ omega (arith, euros-read q (omega arith)))
 
 pub one-value-each : (m n : ℕ) → m ≤ 99999999999 → n ≤ 99999999999 → shortest m ≡ shortest n → m ≡ n
 one-value-each m n a b e = sym (value-again m a) ∙ (ap (λ (s : Bytes). valueFrom 0 (drop 3 s)) e ∙ value-again n b)

@@ -38,11 +38,11 @@ pub record Bic (s : Bytes) : Type 0 where
   pub each : Each (tenDigits ++ capitals) 0 (length s) s
 
 either-length : (n a b : ℕ) → ((eqb n a || eqb n b) ≡ true) ↔ ((n ≡ a) ⊎ (n ≡ b))
-either-length n a b = (go (eqb n a) refl, ⊎-elim (λ e. rw (eq-eqb n a e)) (λ e. rw (eq-eqb n b e) (or-true (eqb n a))))
+either-length n a b = (by-cases (eqb n a) refl, ⊎-elim (λ e. rw (eq-eqb n a e)) (λ e. rw (eq-eqb n b e) (or-true (eqb n a))))
   where
-    go : (c : Bool) → eqb n a ≡ c → (c || eqb n b) ≡ true → (n ≡ a) ⊎ (n ≡ b)
-    go true e h = inl (eqb-true n a e)
-    go false e h = inr (eqb-true n b h)
+    by-cases : (c : Bool) → eqb n a ≡ c → (c || eqb n b) ≡ true → (n ≡ a) ⊎ (n ≡ b)
+    by-cases true e h = inl (eqb-true n a e)
+    by-cases false e h = inr (eqb-true n b h)
 
 pub bic-is : (s : Bytes) → (bic s ≡ true) ↔ Bic s
 bic-is s =
@@ -106,11 +106,11 @@ unreadCodings = lines "3|4|5|6|7|8"
 -- a byte of a text, by itself
 alone : (t : Bytes) (x : ℕ) → among t x ≡ true → List·Memᴰ (x ∷ []) (map (λ y. y ∷ []) t)
 alone [] x h = absurd (false≢true h)
-alone (y ∷ t) x h = go (eqb x y) refl h (alone t x)
+alone (y ∷ t) x h = by-cases (eqb x y) refl h (alone t x)
   where
-    go : (b : Bool) → eqb x y ≡ b → (b || among t x) ≡ true → (among t x ≡ true → List·Memᴰ (x ∷ []) (map (λ y. y ∷ []) t)) → List·Memᴰ (x ∷ []) (map (λ y. y ∷ []) (y ∷ t))
-    go true e h more = List·Memᴰ·head (ap (λ z. z ∷ []) (eqb-true x y e))
-    go false e h more = List·Memᴰ·tail (more h)
+    by-cases : (b : Bool) → eqb x y ≡ b → (b || among t x) ≡ true → (among t x ≡ true → List·Memᴰ (x ∷ []) (map (λ y. y ∷ []) t)) → List·Memᴰ (x ∷ []) (map (λ y. y ∷ []) (y ∷ t))
+    by-cases true e h more = List·Memᴰ·head (ap (λ z. z ∷ []) (eqb-true x y e))
+    by-cases false e h more = List·Memᴰ·tail (more h)
 
 coding-so : (s : Bytes) → unreadCoding s ≡ true → List·Memᴰ s unreadCodings
 coding-so [] h = absurd (false≢true h)

@@ -13,7 +13,7 @@ use Rattle.sieve.specs.Verdict.{Refusal, under, accepted, refused, findings, fi
 use Rattle.sieve.specs.Demand.{AcceptsExactly, RefusesEarliest}
 use Rattle.sieve.specs.Latin.{latin}
 use Rattle.sieve.specs.Iso8859.{iso8859}
-use Rattle.sieve.specs.Mod97.{number, remainder97}
+use Rattle.sieve.specs.Mod97.{numeral, remainder97}
 use Rattle.sieve.specs.Cases.{put}
 use Rattle.sieve.proofs.LazyVerdicts as any
 use Rattle.sieve.proofs.LazyVerdicts.{last-broken, sayingCount, sayingBreak, Telling}
@@ -23,7 +23,7 @@ use Rattle.girocode.proofs.DemandThree.{girocode-demand-three}
 
 -- the fewest lines; CR LF; no name, and wrong check digits in the IBAN
 telling : Telling girocode
-unfolding verdict girocode rules iso8859 latin billOf cut breakWidth passes walk badPlace characters lineFeeds firstSuch findings first number remainder97 flatten
+unfolding verdict girocode rules iso8859 latin billOf cut breakWidth passes walk badPlace characters lineFeeds firstSuch findings first numeral remainder97 flatten
 telling =
     record {
       with-lf = joined Lf (take 7 G);

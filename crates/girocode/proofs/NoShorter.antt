@@ -13,7 +13,7 @@ use borrow.Author.Tests.{eqb-true, eqb-false, eq-eqb}
 use Rattle.sieve.specs.Bytes.{Bytes, ascii, every}
 use Rattle.sieve.specs.Decimal.{digitByte}
 use Rattle.sieve.specs.Letters.{digit}
-use Rattle.sieve.specs.Mod97.{number}
+use Rattle.sieve.specs.Mod97.{numeral}
 use Rattle.sieve.proofs.Bounds.{case-at-most}
 use Rattle.sieve.proofs.Decimals.{digit-onto, digit-byte, number-after, number-below, no-more-digits}
 use Rattle.girocode.specs.Limits.{euro}
@@ -22,13 +22,13 @@ use Rattle.girocode.proofs.Amounts.{euros, euros-written, euros-read, p
 
 -- the digits w and f have the value of n cents
 abbrev Worth : ℕ → Bytes → Bytes → Type 0
-Worth n w f = 100 * number 0 (w ++ f) ≡ n * 10 ^ length f
+Worth n w f = 100 * numeral 0 (w ++ f) ≡ n * 10 ^ length f
 
 -- whole euros have at least as many digits as the shortest text has
 
-read-below : (w f : Bytes) → every digit w ≡ true → every digit f ≡ true → number 0 (w ++ f) < 10 ^ length w * 10 ^ length f
+read-below : (w f : Bytes) → every digit w ≡ true → every digit f ≡ true → numeral 0 (w ++ f) < 10 ^ length w * 10 ^ length f
 read-below w f h g =
-    rw (number-after 0 w f, ← pow-add 10 (length w) (length f)) (number-below f (number 0 w) (length w) g (rw zero-add at (number-below w 0 0 h (lit≤ tt))))
+    rw (number-after 0 w f, ← pow-add 10 (length w) (length f)) (number-below f (numeral 0 w) (length w) g (rw zero-add at (number-below w 0 0 h (lit≤ tt))))
 
 value-below : (n : ℕ) (w f : Bytes) → every digit w ≡ true → every digit f ≡ true → Worth n w f → n < 100 * 10 ^ length w
 value-below n w f h g v =
@@ -65,7 +65,7 @@ behind-enough : (n : ℕ) (w : Bytes) {f e : Bytes} → Ending f e → Worth n w
 behind-enough n w no-point v = nothing-behind (n % 100) (omega arith)
 behind-enough n w (point [] h) v = omega (arith, nothing-behind (n % 100) (omega arith))
 behind-enough n w (point (x ∷ []) h) v =
-    let k = number 0 (w ++ (x ∷ [])) - 10 * (n / 100) in
+    let k = numeral 0 (w ++ (x ∷ [])) - 10 * (n / 100) in
     let tens : n % 100 ≡ 10 * k = omega arith in
     two-behind (n % 100) (ap (λ c. c % 10) tens ∙ mul-mod-right 10 k)
 behind-enough n w (point (x ∷ y ∷ f) h) v = omega (arith, three-behind (n % 100))
@@ -98,8 +98,8 @@ module _ (n : ℕ) (few : n ≤ 99999999999) where
   c = n % 100
 
   -- digits behind whole euros are read on from them
-  read-on : (f : Bytes) → number 0 (w ++ f) ≡ number (n / 100) f
-  read-on f = number-after 0 w f ∙ ap (λ m. number m f) (euros-read (n / 100) (omega arith))
+  read-on : (f : Bytes) → numeral 0 (w ++ f) ≡ numeral (n / 100) f
+  read-on f = number-after 0 w f ∙ ap (λ m. numeral m f) (euros-read (n / 100) (omega arith))
 
   stands : {f e : Bytes} → Ending f e → behind c ≡ e → Worth n w f → StandsFor n (ascii euro ++ (w ++ behind c))
   stands {f} {e} ends is v =
@@ -107,18 +107,18 @@ module _ (n : ℕ) (few : n ≤ 99999999999) where
       record { whole = w; whole-digits = x .digital refl; some = x .least; fraction = f; ending = e; ends = ends; text = rw is; value = v }
 
   no-cents : c ≡ 0 → StandsFor n (ascii euro ++ (w ++ behind c))
-  unfolding number
+  unfolding numeral
   no-cents z = stands no-point (rw z) (rw (read-on []) (omega arith))
 
   one-digit : c ≢ 0 → c % 10 ≡ 0 → StandsFor n (ascii euro ++ (w ++ behind c))
-  unfolding number
+  unfolding numeral
   one-digit some z =
       let d = digitByte (c / 10) in
       let is-digit = digit-byte (c / 10) (omega arith) in
       stands (point (d ∷ []) (rw is-digit)) (point-and-one c some z) (rw (read-on (d ∷ []), digit-onto (n / 100) d is-digit) (omega arith))
 
   two-digits : c % 10 ≢ 0 → StandsFor n (ascii euro ++ (w ++ behind c))
-  unfolding number
+  unfolding numeral
   two-digits other =
       let d = digitByte (c / 10) in
       let e = digitByte (c % 10) in
@@ -129,9 +129,9 @@ module _ (n : ℕ) (few : n ≤ 99999999999) where
 
   pub stands-itself : StandsFor n (shortest n)
   unfolding shortest
-  stands-itself = go (eqb c 0) refl (eqb (c % 10) 0) refl
+  stands-itself = by-cases (eqb c 0) refl (eqb (c % 10) 0) refl
     where
-      go : (a : Bool) → eqb c 0 ≡ a → (b : Bool) → eqb (c % 10) 0 ≡ b → StandsFor n (ascii euro ++ (w ++ behind c))
-      go true x b y = no-cents (eqb-true c 0 x)
-      go false x true y = one-digit (eqb-false c 0 x) (eqb-true (c % 10) 0 y)
-      go false x false y = two-digits (eqb-false (c % 10) 0 y)
+      by-cases : (a : Bool) → eqb c 0 ≡ a → (b : Bool) → eqb (c % 10) 0 ≡ b → StandsFor n (ascii euro ++ (w ++ behind c))
+      by-cases true x b y = no-cents (eqb-true c 0 x)
+      by-cases false x true y = one-digit (eqb-false c 0 x) (eqb-true (c % 10) 0 y)
+      by-cases false x false y = two-digits (eqb-false (c % 10) 0 y)

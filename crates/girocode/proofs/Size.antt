@@ -12,8 +12,8 @@ use Rattle.sieve.proofs.Iso8859.{iso-counts}
 use Rattle.girocode.specs.Coding.{readAsIso, chosen, size}
 
 pub size-counts : (ls : List Bytes) {l : Bytes} (t : Text (chosen ls) l) → size ls l ≡ count t
-size-counts ls {l} = go (readAsIso ls)
+size-counts ls {l} = by-cases (readAsIso ls)
   where
-    go : (b : Bool) (t : Text (cond b iso8859 latin) l) → cond b (length l) (characters l) ≡ count t
-    go true t = iso-counts t
-    go false t = latin-counts t
+    by-cases : (b : Bool) (t : Text (cond b iso8859 latin) l) → cond b (length l) (characters l) ≡ count t
+    by-cases true t = iso-counts t
+    by-cases false t = latin-counts t

@@ -9,7 +9,7 @@ use Rattle.sieve.specs.Characters.{breakWidth, passes, walk, badPlace, characte
 use Rattle.sieve.specs.Verdict.{under, underAt, accepted, refused, findings, first, verdict}
 use Rattle.sieve.specs.Cases.{lines, put, putBytes, times, upFrom, each, letter, umlaut, ends, euro, Case, case, right}
 use Rattle.sieve.specs.Latin.{latin}
-use Rattle.sieve.specs.Mod97.{number, remainder97}
+use Rattle.sieve.specs.Mod97.{numeral, remainder97}
 use Rattle.sieve.specs.Iso8859.{iso8859}
 use Rattle.girocode.specs.Girocode.{rules, girocode}
 use Rattle.girocode.specs.Base.{G, good, bad, badAt, badByte, umlautIso, spaceIso, iso}
@@ -892,5 +892,5 @@ second =
     ∷ []
 
 pub the-second-table : T (right girocode second)
-unfolding second right verdict girocode rules iso8859 latin billOf cut breakWidth passes walk badPlace characters lineFeeds firstSuch findings first number remainder97 flatten
+unfolding second right verdict girocode rules iso8859 latin billOf cut breakWidth passes walk badPlace characters lineFeeds firstSuch findings first numeral remainder97 flatten
 the-second-table = tt

@@ -8,7 +8,7 @@ use lib.ListN.{length}
 use Rattle.sieve.specs.Bytes.{Bytes, ascii, every}
 use Rattle.sieve.specs.Decimal.{digitByte, decimalIn}
 use Rattle.sieve.specs.Letters.{digit}
-use Rattle.sieve.specs.Mod97.{number}
+use Rattle.sieve.specs.Mod97.{numeral}
 use Rattle.girocode.specs.Limits.{euro}
 
 -- what stands behind whole euros for cents below 100: nothing, or a point and one digit, or a point and two, the last not 0
@@ -35,4 +35,4 @@ pub record StandsFor (n : ℕ) (s : Bytes) : Type 0 where
   pub ends : Ending fraction ending
   pub text : s ≡ ascii euro ++ (whole ++ ending)
   -- the digits' number, with as many of them behind the point, is n hundredths
-  pub value : 100 * number 0 (whole ++ fraction) ≡ n * 10 ^ length fraction
+  pub value : 100 * numeral 0 (whole ++ fraction) ≡ n * 10 ^ length fraction

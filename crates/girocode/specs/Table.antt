@@ -9,7 +9,7 @@ use Rattle.sieve.specs.Characters.{breakWidth, passes, walk, badPlace, characte
 use Rattle.sieve.specs.Verdict.{under, underAt, accepted, refused, findings, first, verdict}
 use Rattle.sieve.specs.Cases.{lines, put, putBytes, times, umlaut, Case, case, right}
 use Rattle.sieve.specs.Latin.{latin}
-use Rattle.sieve.specs.Mod97.{number, remainder97}
+use Rattle.sieve.specs.Mod97.{numeral, remainder97}
 use Rattle.sieve.specs.Iso8859.{iso8859}
 use Rattle.girocode.specs.Girocode.{rules, girocode}
 use Rattle.girocode.specs.Base.{G, good, bad, badByte, umlautIso, spaceIso, iso}
@@ -177,5 +177,5 @@ table =
     ∷ []
 
 pub the-table : T (right girocode table)
-unfolding table right verdict girocode rules iso8859 latin billOf cut breakWidth passes walk badPlace characters lineFeeds firstSuch findings first number remainder97 flatten
+unfolding table right verdict girocode rules iso8859 latin billOf cut breakWidth passes walk badPlace characters lineFeeds firstSuch findings first numeral remainder97 flatten
 the-table = tt

@@ -7,7 +7,7 @@ pub const FEWEST_LINES: usize = 7;
 
 pub const MOST_LINES: usize = 12;
 
-// The same, of a whole payload.
+// What a whole payload may have of bytes and lines.
 pub const LIMITS: Limits = Limits {
     bytes: MOST_BYTES,
     fewest: FEWEST_LINES,
@@ -27,6 +27,11 @@ pub const REFERENCE_MOST: usize = 35;
 pub const TEXT_MOST: usize = 140;
 
 pub const DISPLAY_MOST: usize = 70;
+
+// The fewest and the most characters of an IBAN.
+pub const IBAN_FEWEST: usize = 5;
+
+pub const IBAN_MOST: usize = 34;
 
 // Texts that a line must be, or may be.
 pub const SERVICE_TAG: [u8; 3] = *b"BCD";

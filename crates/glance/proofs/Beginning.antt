@@ -12,7 +12,7 @@ use Rattle.sieve.specs.Bytes.{Bytes}
 use Rattle.sieve.specs.Lines.{Next, breakBytes, gluedAfter, cut, linesOf}
 use Rattle.sieve.specs.Verdict.{Refusal}
 use Rattle.sieve.proofs.Cutting.{glued-cut, break-length}
-use Rattle.text.specs.LinesIn.{lineOf}
+use Rattle.lines.specs.LinesIn.{lineOf}
 use Rattle.glance.specs.Glance.{looked, wholeLines, foundIn, unlessFound, look, glance}
 use Rattle.glance.proofs.Kept.{length-1, length-2, length-3, length-4}
 
@@ -31,7 +31,7 @@ ended l (a ∷ b ∷ c ∷ d ∷ ns) h g = omega arith
 
 more-or-not : (s : Bytes) → looked ≤ length s → look s true ≡ look s false
 unfolding look
-more-or-not s h = go (foundIn (linesOf (cut s))) refl
+more-or-not s h = by-cases (foundIn (linesOf (cut s))) refl
   where
     found : (v w : Bool) (r : Refusal) → unlessFound v (some r) (lineOf s 4) ≡ unlessFound w (some r) (lineOf s 4)
     found true true r = refl
@@ -39,18 +39,18 @@ more-or-not s h = go (foundIn (linesOf (cut s))) refl
     found false true r = refl
     found false false r = refl
 
-    go : (o : Option Refusal) → foundIn (linesOf (cut s)) ≡ o → unlessFound (ltb (wholeLines s true) 4) o (lineOf s 4) ≡ unlessFound (ltb (wholeLines s false) 4) o (lineOf s 4)
-    go (some r) e = found (ltb (wholeLines s true) 4) (ltb (wholeLines s false) 4) r
-    go none e =
+    by-cases : (o : Option Refusal) → foundIn (linesOf (cut s)) ≡ o → unlessFound (ltb (wholeLines s true) 4) o (lineOf s 4) ≡ unlessFound (ltb (wholeLines s false) 4) o (lineOf s 4)
+    by-cases (some r) e = found (ltb (wholeLines s true) 4) (ltb (wholeLines s false) 4) r
+    by-cases none e =
         let four = ended (cut s .first) (cut s .rest) e (omega (arith, h, ap length (glued-cut s))) in
         rw (le-ltb (wholeLines s true) 4 (omega (arith, four)), le-ltb (wholeLines s false) 4 (omega (arith, four)))
 
 pub beginning-alone : (p q : Bytes) → take looked p ≡ take looked q → glance p ≡ glance q
 unfolding glance
-beginning-alone p q e = go (ltb looked (length p)) refl (ltb looked (length q)) refl
+beginning-alone p q e = by-cases (ltb looked (length p)) refl (ltb looked (length q)) refl
   where
-    go : (a : Bool) → ltb looked (length p) ≡ a → (b : Bool) → ltb looked (length q) ≡ b → look (take looked p) a ≡ look (take looked q) b
-    go true f true g = rw e
-    go false f false g = rw e
-    go true f false g = rw (← e) (more-or-not (take looked p) (omega (arith, length-take looked p, ltb-true looked (length p) f)))
-    go false f true g = rw e (sym (more-or-not (take looked q) (omega (arith, length-take looked q, ltb-true looked (length q) g))))
+    by-cases : (a : Bool) → ltb looked (length p) ≡ a → (b : Bool) → ltb looked (length q) ≡ b → look (take looked p) a ≡ look (take looked q) b
+    by-cases true f true g = rw e
+    by-cases false f false g = rw e
+    by-cases true f false g = rw (← e) (more-or-not (take looked p) (omega (arith, length-take looked p, ltb-true looked (length p) f)))
+    by-cases false f true g = rw e (sym (more-or-not (take looked q) (omega (arith, length-take looked q, ltb-true looked (length q) g))))

@@ -9,11 +9,11 @@ use lib.ListN.{length, take, drop, length-map}
 use Rattle.sieve.specs.Bytes.{Bytes}
 use Rattle.sieve.specs.Lines.{cut, linesOf, breaksOf}
 use Rattle.sieve.specs.Rules.{line, noText}
-use Rattle.text.specs.declared.LineAt.{LineAt}
-use Rattle.text.specs.LinesIn.{linesIn, lineOf}
-use Rattle.text.specs.Results.{IsLineAt, IsPlaceOf}
-use Rattle.text.proofs.LinesAt.{line-is, within}
-use Rattle.text.proofs.LinesLie.{this-line, after-this}
+use Rattle.lines.specs.declared.LineAt.{LineAt}
+use Rattle.lines.specs.LinesIn.{linesIn, lineOf}
+use Rattle.lines.specs.Results.{IsLineAt, IsPlaceOf}
+use Rattle.lines.proofs.LinesAt.{line-is, within}
+use Rattle.lines.proofs.LinesLie.{this-line, after-this}
 use Rattle.glance.proofs.LineAfter.{line-after, breaks-after, unended, ended}
 
 pub record Four (s : Bytes) (a b c d : LineAt) : Type 0 where

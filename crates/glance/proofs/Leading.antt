@@ -10,7 +10,7 @@ use Rattle.sieve.specs.Bytes.{Bytes}
 use Rattle.sieve.specs.Lawful.{Clean}
 use Rattle.sieve.specs.Lines.{breakBytes, cut}
 use Rattle.sieve.proofs.Cutting.{Each, nexts, cut-break, cut-clean}
-use Rattle.text.proofs.LinesAt.{behind}
+use Rattle.lines.proofs.LinesAt.{behind}
 
 abbrev pub leading : Break → List Bytes → Bytes → Bytes
 leading k [] t = t

@@ -8,9 +8,9 @@ use lib.ListN.{length, getD, drop, length-append, length-drop, drop-of-length-le
 use Rattle.sieve.specs.Bytes.{Bytes}
 use Rattle.sieve.specs.Lines.{gluedAfter, cut, linesOf}
 use Rattle.sieve.proofs.Cutting.{glued-cut}
-use Rattle.text.specs.declared.LineAt.{LineAt}
-use Rattle.text.specs.Results.{IsLineAt}
-use Rattle.text.proofs.LinesAt.{some-width, Onward, nothing, a-break, onward}
+use Rattle.lines.specs.declared.LineAt.{LineAt}
+use Rattle.lines.specs.Results.{IsLineAt}
+use Rattle.lines.proofs.LinesAt.{some-width, Onward, nothing, a-break, onward}
 
 -- no bytes have no line but the first
 no-lines : (i : ℕ) → getD (linesOf (cut [])) i [] ≡ []
@@ -33,31 +33,31 @@ module _ (s : Bytes) (at : ℕ) (r : LineAt) (is : IsLineAt s at r) where
 
   -- the lines after it
   pub line-after : (i : ℕ) → getD (linesOf (cut (drop at s))) (suc i) [] ≡ getD (linesOf (cut (drop (r .next) s))) i []
-  line-after i = go (onward s at r is)
+  line-after i = by-cases (onward s at r is)
     where
-      go : Onward s at r → getD (linesOf (cut (drop at s))) (suc i) [] ≡ getD (linesOf (cut (drop (r .next) s))) i []
-      go (nothing e f) = rw f (sym (ap (λ (t : Bytes). getD (linesOf (cut t)) i []) (at-end e f) ∙ no-lines i))
-      go (a-break k e f) = rw f
+      by-cases : Onward s at r → getD (linesOf (cut (drop at s))) (suc i) [] ≡ getD (linesOf (cut (drop (r .next) s))) i []
+      by-cases (nothing e f) = rw f (sym (ap (λ (t : Bytes). getD (linesOf (cut t)) i []) (at-end e f) ∙ no-lines i))
+      by-cases (a-break k e f) = rw f
 
   -- how many breaks there are after it
   pub breaks-after : length (cut (drop (r .next) s) .rest) ≡ length (cut (drop at s) .rest) - 1
-  breaks-after = go (onward s at r is)
+  breaks-after = by-cases (onward s at r is)
     where
-      go : Onward s at r → length (cut (drop (r .next) s) .rest) ≡ length (cut (drop at s) .rest) - 1
-      go (nothing e f) = rw (at-end e f, f, no-breaks)
-      go (a-break k e f) = rw f (omega arith)
+      by-cases : Onward s at r → length (cut (drop (r .next) s) .rest) ≡ length (cut (drop at s) .rest) - 1
+      by-cases (nothing e f) = rw (at-end e f, f, no-breaks)
+      by-cases (a-break k e f) = rw f (omega arith)
 
   -- a break ends it exactly where the next line starts further on
   pub unended : r .next ≡ r .end → length (cut (drop at s) .rest) ≡ 0
-  unended h = go (onward s at r is)
+  unended h = by-cases (onward s at r is)
     where
-      go : Onward s at r → length (cut (drop at s) .rest) ≡ 0
-      go (nothing e f) = rw f
-      go (a-break k e f) = absurd (some-width k (omega arith))
+      by-cases : Onward s at r → length (cut (drop at s) .rest) ≡ 0
+      by-cases (nothing e f) = rw f
+      by-cases (a-break k e f) = absurd (some-width k (omega arith))
 
   pub ended : r .next ≢ r .end → 1 ≤ length (cut (drop at s) .rest)
-  ended h = go (onward s at r is)
+  ended h = by-cases (onward s at r is)
     where
-      go : Onward s at r → 1 ≤ length (cut (drop at s) .rest)
-      go (nothing e f) = absurd (h e)
-      go (a-break k e f) = rw f (omega arith)
+      by-cases : Onward s at r → 1 ≤ length (cut (drop at s) .rest)
+      by-cases (nothing e f) = absurd (h e)
+      by-cases (a-break k e f) = rw f (omega arith)

@@ -13,10 +13,10 @@ use Rattle.sieve.specs.Lines.{cut, linesOf, breaksOf}
 use Rattle.sieve.specs.Rules.{Rule}
 use Rattle.sieve.specs.Verdict.{Refusal}
 use Rattle.swiss.specs.Swiss.{header, account}
-use Rattle.text.specs.declared.LineAt.{LineAt}
-use Rattle.text.specs.LinesIn.{lineOf}
+use Rattle.lines.specs.declared.LineAt.{LineAt}
+use Rattle.lines.specs.LinesIn.{lineOf}
 use Rattle.findings.specs.declared.Finding.{Finding}
-use Rattle.findings.specs.Findings.{small, finds, from}
+use Rattle.findings.specs.Findings.{asFinding, finds, from}
 use Rattle.findings.proofs.Looking.{numbered, found-nothing}
 use Rattle.glance.specs.declared.Account.the-variants.{Unknown, At}
 use Rattle.glance.specs.Glance.{wholeLines, foundIn, unlessFound, look, accountAs}
@@ -48,12 +48,12 @@ module _ {s : Bytes} {a b c d : LineAt} (are : Four s a b c d) (more : Bool) whe
   -- something is found
   pub found-unknown : {f : Finding} → f ≡ finds rules (linesOf (cut s)) → (f .number ≡ 0 → ⊥) → Unknown ≡ accountAs (look s more)
   unfolding look finds
-  found-unknown {f} is h = go found (ltb whole 4) is
+  found-unknown {f} is h = by-cases found (ltb whole 4) is
     where
-      go : (o : Option Refusal) (w : Bool) → f ≡ small o → Unknown ≡ accountAs (unlessFound w o (lineOf s 4))
-      go none w e = absurd (h (ap (λ g. g .number) e))
-      go (some r) true e = refl
-      go (some r) false e = refl
+      by-cases : (o : Option Refusal) (w : Bool) → f ≡ asFinding o → Unknown ≡ accountAs (unlessFound w o (lineOf s 4))
+      by-cases none w e = absurd (h (ap (λ g. g .number) e))
+      by-cases (some r) true e = refl
+      by-cases (some r) false e = refl
 
   -- fewer than four lines are whole
   few-unknown : whole ≤ 3 → Unknown ≡ accountAs (look s more)
@@ -72,11 +72,11 @@ module _ {s : Bytes} {a b c d : LineAt} (are : Four s a b c d) (more : Bool) whe
   module _ (f : Finding) (is : f ≡ finds rules (linesOf (cut s))) where
     pub answers-known : answers f ≡ true → At (c .next) (d .end - c .next) ≡ accountAs (look s more)
     unfolding finds numbered
-    answers-known = go (eqb (f .number) 0) refl more refl (eqb (d .next) (d .end)) refl
+    answers-known = by-cases (eqb (f .number) 0) refl more refl (eqb (d .next) (d .end)) refl
       where
-        go : (z : Bool) → eqb (f .number) 0 ≡ z → (m : Bool) → more ≡ m → (u : Bool) → eqb (d .next) (d .end) ≡ u → (z && (not m || not u)) ≡ true → At (c .next) (d .end - c .next) ≡ accountAs (look s more)
-        go false e m g u i h = absurd (false≢true h)
-        go true e m g u i h =
+        by-cases : (z : Bool) → eqb (f .number) 0 ≡ z → (m : Bool) → more ≡ m → (u : Bool) → eqb (d .next) (d .end) ≡ u → (z && (not m || not u)) ≡ true → At (c .next) (d .end - c .next) ≡ accountAs (look s more)
+        by-cases false e m g u i h = absurd (false≢true h)
+        by-cases true e m g u i h =
             let nothing = found-nothing (linesOf (cut s)) rules refl (sym (ap (λ g. g .number) is) ∙ eqb-true _ _ e) in
             let three = there-4 are (filled-4 (linesOf (cut s)) nothing) in
             four-known nothing (enough m g u i h three) three
@@ -87,10 +87,10 @@ module _ {s : Bytes} {a b c d : LineAt} (are : Four s a b c d) (more : Bool) whe
             enough false g u i h three = rw g (omega (arith, three))
 
     pub else-unknown : answers f ≡ false → Unknown ≡ accountAs (look s more)
-    else-unknown = go (eqb (f .number) 0) refl more refl (eqb (d .next) (d .end)) refl
+    else-unknown = by-cases (eqb (f .number) 0) refl more refl (eqb (d .next) (d .end)) refl
       where
-        go : (z : Bool) → eqb (f .number) 0 ≡ z → (m : Bool) → more ≡ m → (u : Bool) → eqb (d .next) (d .end) ≡ u → (z && (not m || not u)) ≡ false → Unknown ≡ accountAs (look s more)
-        go false e m g u i h = found-unknown is (eqb-false _ _ e)
-        go true e true g true i h = few-unknown (rw g (omega (arith, unended-4 are (eqb-true _ _ i))))
-        go true e true g false i h = absurd (true≢false h)
-        go true e false g u i h = absurd (true≢false h)
+        by-cases : (z : Bool) → eqb (f .number) 0 ≡ z → (m : Bool) → more ≡ m → (u : Bool) → eqb (d .next) (d .end) ≡ u → (z && (not m || not u)) ≡ false → Unknown ≡ accountAs (look s more)
+        by-cases false e m g u i h = found-unknown is (eqb-false _ _ e)
+        by-cases true e true g true i h = few-unknown (rw g (omega (arith, unended-4 are (eqb-true _ _ i))))
+        by-cases true e true g false i h = absurd (true≢false h)
+        by-cases true e false g u i h = absurd (true≢false h)

@@ -7,8 +7,8 @@ use lib.Seq.{take-append-le, drop-append-le}
 use Rattle.sieve.specs.Bytes.{Bytes}
 use Rattle.sieve.specs.Lines.{cut, linesOf}
 use Rattle.sieve.specs.Rules.{line}
-use Rattle.text.specs.LinesIn.{lineOf}
-use Rattle.text.proofs.LinesLie.{line-lies, line-text}
+use Rattle.lines.specs.LinesIn.{lineOf}
+use Rattle.lines.proofs.LinesLie.{line-lies, line-text}
 
 -- a part that lies in the first bytes lies there in all
 in-front : (n at m : ℕ) (p : Bytes) → length (take n (drop at (take m p))) ≡ n → take n (drop at p) ≡ take n (drop at (take m p))

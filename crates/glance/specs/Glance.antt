@@ -9,7 +9,7 @@ use Rattle.sieve.specs.Bytes.{Bytes}
 use Rattle.sieve.specs.Lines.{cut, linesOf, breaksOf}
 use Rattle.sieve.specs.Places.{Placed}
 use Rattle.sieve.specs.Verdict.{Refusal, aboutLines, first}
-use Rattle.text.specs.LinesIn.{lineOf}
+use Rattle.lines.specs.LinesIn.{lineOf}
 use Rattle.swiss.specs.Swiss.{header, account}
 use Rattle.glance.specs.declared.Account.{Account}
 use Rattle.glance.specs.declared.Account.the-variants.{Unknown, At}
@@ -36,7 +36,7 @@ unlessFound false none l = some l
 unfoldable pub look : Bytes → Bool → Option Placed
 look head more = unlessFound (ltb (wholeLines head more) 4) (foundIn (linesOf (cut head))) (lineOf head 4)
 
--- the same of the first 37 bytes of a payload
+-- the look at a payload: at its first 37 bytes, and at whether there are more
 unfoldable pub glance : Bytes → Option Placed
 glance p = look (take looked p) (ltb looked (length p))
 

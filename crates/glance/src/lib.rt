@@ -1,7 +1,7 @@
 // Whose account a payload names, at a glance: by its first 37 bytes, and by whether there are more.
+use lines::line_at;
 use swiss_rules::account;
 use swiss_rules::header;
-use text::line_at;
 ghost use mathlib.Core.Path.{_≡_};
 ghost use Rattle.glance.specs.Glance.{look, glance, accountAs};
 

@@ -28,18 +28,18 @@ pub whole : {d l now : Bytes} {n : ℕ} → length l ≤ n → Laying d l n now 
 whole {d} {l} {now} {n} h m = let q : n ≡ length l = le-antisymm (m .few) h in (q, m .is ∙ rw (q, take-length l))
 
 pub byte-more : (d w : Bytes) (n : ℕ) (now : Bytes) (x : ℕ) → n < length d → Front d w n now → Front d (w ++ x ∷ []) (n + 1) (set now n x)
-byte-more d w n now x h (q, is) =
+byte-more d w n now x h (q, laid-is) =
     let in-d : length w < length d = omega arith in
     let one-more : length (w ++ x ∷ []) ≡ length w + 1 = length-append w (x ∷ []) in (
       omega (arith, one-more),
-      rw (is, q, one-more, add-one, drop-cons d (length w) 0 in-d, set-append-seam) (sym (append-assoc w (x ∷ []) _)),
+      rw (laid-is, q, one-more, add-one, drop-cons d (length w) 0 in-d, set-append-seam) (sym (append-assoc w (x ∷ []) _)),
     )
 
 pub two-more : (d w : Bytes) (n : ℕ) (now : Bytes) (x y : ℕ) → n + 1 < length d → Front d w n now → Front d (w ++ x ∷ y ∷ []) (n + 2) (set (set now n x) (n + 1) y)
 two-more d w n now x y h f =
-    let (q, is) = byte-more d (w ++ x ∷ []) (n + 1) (set now n x) y h (byte-more d w n now x (omega arith) f) in
+    let (q, laid-is) = byte-more d (w ++ x ∷ []) (n + 1) (set now n x) y h (byte-more d w n now x (omega arith) f) in
     let both : (w ++ x ∷ []) ++ y ∷ [] ≡ w ++ x ∷ y ∷ [] = append-assoc w (x ∷ []) (y ∷ []) in
-    (omega (arith, ap length both), rw both at is)
+    (omega (arith, ap length both), rw both at laid-is)
 
 -- of J, after its first n bytes, w comes next, and then the rest
 pub record Ahead (J : Bytes) (n : ℕ) (w rest : Bytes) : Type 0 where
@@ -67,10 +67,10 @@ module _ {d₀ J d w rest : Bytes} {n : ℕ} (m : Laying d₀ J n d) (enough : l
 
   -- and laid there it lies behind what is laid already
   pub laid-behind : {r : ℕ} {t : Bytes} → r ≡ length w → t ≡ over (midOf n (length d - n) d) w → Laying d₀ J (n + r) (putMid n (length d - n) d t) × (drop (n + r) J ≡ rest)
-  laid-behind {r} {t} q is =
-      let all : putMid n (length d - n) d t ≡ take (n + length w) J ++ drop (n + length w) d₀ = back n d t ∙ rw (is, lent n d, drop-drop (length w) n d) laid-on in
+  laid-behind {r} {t} q laid-is =
+      let all : putMid n (length d - n) d t ≡ take (n + length w) J ++ drop (n + length w) d₀ = back n d t ∙ rw (laid-is, lent n d, drop-drop (length w) n d) laid-on in
       rw q (record { few = omega (arith, bytes); is = all; size = rw all long }, rw (← drop-drop (length w) n J, e .is) (drop-append-seam w rest))
 
 -- the front of a buffer in which J is laid
 pub laid-front : (J buffer rest : Bytes) (n : ℕ) → n ≡ length J → buffer ≡ J ++ rest → midOf 0 (n - 0) buffer ≡ J
-laid-front J buffer rest n long is = rw (is, sub-zero n, long) (take-append-seam J rest)
+laid-front J buffer rest n long laid-is = rw (laid-is, sub-zero n, long) (take-append-seam J rest)

@@ -1,5 +1,9 @@
-pub mod Stepping
-pub mod ByEights
-pub mod Coming
-pub mod Telling
+pub mod ByteByByte
+pub mod Counting
+pub mod FirstLine
+pub mod Fronts
+pub mod Holding
+pub mod LinesAt
+pub mod LinesLie
 pub mod OneAnswer
+pub mod Parting

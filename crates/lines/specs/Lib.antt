@@ -1,2 +1,3 @@
-pub mod Here
-pub mod Walking
+pub mod LinesIn
+pub mod Parted
+pub mod Results

@@ -1,250 +1,209 @@
-// The walk over a payload: its characters, its breaks, and where its lines lie.
-use breaks::Parted;
-use breaks::parts;
-use characters::characters_in;
-use characters::plain_run;
-use marks::first_marked;
-use marks::later_marks;
-use marks::marks_at;
-use places::clear;
+// Lines and breaks of any bytes: how wide a break is, the line finder, and whether all breaks are alike.
 use sieve::Break;
-use sieve::Charset;
-use sieve::WALK_LINES;
-use sieve::WALK_NUMBERS;
-use text::feed_after;
 ghost use mathlib.Core.Path.{_≡_};
-ghost use Prim.Native.Nat.{_-_, _≤_};
-ghost use lib.ListN.{length};
-ghost use Rattle.sieve.specs.Characters.{badPlace};
-ghost use Rattle.sieve.specs.Charsets.{ofSet};
-ghost use Rattle.breaks.specs.Parted.{breaksIn};
-ghost use Rattle.places.specs.Listed.{room, greatest, listed, listedShort, listedOf, Filled};
-ghost use Rattle.lines.specs.Here.{Begun, GoneOn};
-ghost use Rattle.lines.specs.Walking.{walked, noted, onePassed};
-ghost use Rattle.lines.specs.Walking.{Passable, IsPassed, IsListed, IsCame, IsTold};
+ghost use Prim.Native.Nat.{_<_};
+ghost use lib.Dec.{eqb};
+ghost use lib.ListN.{length, drop, getD};
+ghost use Rattle.sieve.specs.Bytes.{firstSuch};
+ghost use Rattle.sieve.specs.Lines.{breakBytes, ofBreak};
+ghost use Rattle.sieve.specs.Characters.{breakWidth};
+ghost use Rattle.lines.specs.LinesIn.{lineOf};
+ghost use Rattle.lines.specs.Results.{IsLineAt, IsPlaceOf, strayAs};
+ghost use Rattle.lines.specs.Parted.{breaksIn, ofWidth, heldBy, partedBy};
 
-// The greatest number of 16 bits.
-const GREATEST: usize = 65535;
-
-// What the walk over characters and breaks finds.
-pub enum Walked {
-    Clean,
-    // the line, and the byte's place
-    Bad(usize, usize),
-}
-
-// All that one walk tells, beside the list that it fills. Where a byte is bad, the lines are not told: one line.
-pub struct Told {
-    pub walked: Walked,
-    pub parted: Parted,
-}
-
-// The lines that the walk has passed: the breaks that ended them, how many of these are CR LF, and where the next line
-// starts.
-struct Passed {
-    feeds: usize,
-    returns: usize,
-    start: usize,
-}
-
-// Where the walk has come to: what it found, and the lines that it passed.
-struct Came {
-    walked: Walked,
-    passed: Passed,
-}
-
-// Notes a line behind n others, where it is among the lines that are listed. Of longer numbers 16 bits are noted. The
-// list comes as a slice, since a proof learns how many numbers an array has where the array is lent as one.
-fn note(places: &mut [u16], n: usize, start: usize, bytes: usize)
-    requires { ⌜ length (now places) ≡ room ⌝ }
-    ensures { λ _. ⌜ now (places .exit) ≡ noted (now (places .entry)) n start bytes ⌝ }
+// Whether LF stands directly after a byte.
+pub fn feed_after(s: &[u8], at: usize) -> bool
+    requires { ⌜ at < length (now s) ⌝ }
+    ensures { λ r. ⌜ r ≡ eqb (getD (drop at (now (s .entry))) 1 0) 10 ⌝ }
 {
-    if n < WALK_LINES {
-        places[2 * n] = (start % 65536) as u16;
-        places[2 * n + 1] = (bytes % 65536) as u16;
+    let next = at + 1;
+    if next < s.len() {
+        return s[next] == 10;
     }
+    false
 }
 
-// A line of so many bytes is passed, and the break at `at` that ends it.
-fn pass(places: &mut [u16], passed: Passed, bytes: usize, at: usize, width: usize) -> Passed
-    requires { ⌜ (length (now places) ≡ room) × Passable passed at width ⌝ }
-    ensures { λ r. ⌜ r ≡ onePassed passed at width ⌝ }
-    ensures { λ _. ⌜ now (places .exit) ≡ noted (now (places .entry)) (passed .feeds) (passed .start) bytes ⌝ }
+// The width of the break that begins at `at`, LF or CR directly followed by LF; 0 where none begins.
+fn break_width(s: &[u8], at: usize) -> usize
+    requires { ⌜ at < length (now s) ⌝ }
+    ensures { λ r. ⌜ r ≡ breakWidth (drop at (now (s .entry))) ⌝ }
 {
-    note(places, passed.feeds, passed.start, bytes);
-    Passed {
-        feeds: passed.feeds + 1,
-        returns: passed.returns + (width - 1),
-        start: at + width,
+    let x = s[at];
+    if x == 10 {
+        return 1;
     }
+    if (x == 13) & feed_after(s, at) {
+        return 2;
+    }
+    0
 }
 
-// Where the walk stands: the lines that it has passed, and the byte that it has come to.
-struct Standing {
-    passed: Passed,
-    at: usize,
-}
-
-// How many places of n bytes have eight bytes from there on.
-fn eights(n: usize) -> usize
-    ensures { λ r. ⌜ r ≡ n - 7 ⌝ }
+// LF or CR.
+fn of_break(x: u8) -> bool
+    ensures { λ r. ⌜ r ≡ ofBreak x ⌝ }
 {
-    if n < 7 { 0 } else { n - 7 }
+    (x == 10) | (x == 13)
 }
 
-// Passes lines of characters by themselves, eight bytes at once, from the start of a line on: to a byte that is neither
-// such a character nor of a break, to the end of the list, or to where fewer than eight bytes are left.
-fn pass_lines(s: &[u8], places: &mut [u16; WALK_NUMBERS], passed: Passed) -> Standing
-    requires { ⌜ Begun (now s) (now places) passed ⌝ }
-    ensures { λ r. ⌜ GoneOn (now (s .entry)) (now (places .entry)) passed (now (places .exit)) r ⌝ }
+// Where a line ends, and where the next one starts; both the same where it is the last.
+pub struct LineAt {
+    pub end: usize,
+    pub next: usize,
+}
+
+// The line finder: of any bytes, the line that starts at `from`. Most bytes are neither LF nor CR, and are passed
+// without looking at their neighbours.
+pub fn line_at(s: &[u8], from: usize) -> LineAt
+    ensures { λ r. ⌜ IsLineAt (now (s .entry)) from r ⌝ }
 {
-    let starts = eights(s.len());
-    let mut p = passed;
-    let mut from = p.start;
-    'words: while from < starts {
-        let mut left = marks_at(s, from);
-        while left != 0 {
-            let at = from + first_marked(left);
-            if WALK_LINES <= p.feeds {
-                return Standing { passed: p, at };
-            }
-            let mark = s[at];
-            if mark == 10 {
-                p = pass(places, p, at - p.start, at, 1);
-                left = later_marks(left);
-            } else {
-                if (mark == 13) & feed_after(s, at) {
-                    p = pass(places, p, at - p.start, at, 2);
-                    from = at + 2;
-                    continue 'words;
-                }
-                return Standing { passed: p, at };
+    let mut at = from;
+    while at < s.len() {
+        if of_break(s[at]) {
+            let b = break_width(s, at);
+            if b != 0 {
+                let next = at + b;
+                return LineAt { end: at, next };
             }
         }
-        from += 8;
+        at += 1;
     }
-    Standing {
-        passed: p,
-        at: from,
-    }
+    LineAt { end: at, next: at }
 }
 
-const NONE_PASSED: Passed = Passed {
-    feeds: 0,
-    returns: 0,
-    start: 0,
-};
+// Where a line lies.
+pub struct Place {
+    pub start: usize,
+    pub bytes: usize,
+}
 
-// Walks line by line, and in each line character by character, to the first place where neither a character nor a
-// break begins. What ends a line is one LF, alone or after CR. Most lines are of characters that are one byte in each set, 20
-// to 7E, and are passed eight bytes at once; only from where that ends is a line walked by itself.
-fn come(s: &[u8], set: Charset, places: &mut [u16; WALK_NUMBERS]) -> Came
-    ensures { λ r. ⌜ r .walked ≡ walked (now (s .entry)) (badPlace (ofSet set) (now (s .entry))) ⌝ }
-    ensures { λ r. ⌜ IsCame (now (s .entry)) r (now (places .exit)) ⌝ }
+// The place of line `n`, counted from 1; 0 counts as 1. An absent line lies at the end, with length 0.
+pub fn line_place(s: &[u8], n: usize) -> Place
+    ensures { λ r. ⌜ IsPlaceOf (lineOf (now (s .entry)) n) r ⌝ }
 {
     let mut at = 0;
-    let mut passed = NONE_PASSED;
-    let mut walked = Walked::Clean;
-    'lines: while at < s.len() {
-        let standing = pass_lines(s, places, passed);
-        passed = standing.passed;
-        at = standing.at;
-        while at < s.len() {
-            at += plain_run(&s[at..]);
-            if at == s.len() {
-                break 'lines;
-            }
-            let x = s[at];
-            if x == 10 {
-                passed = pass(places, passed, at - passed.start, at, 1);
-                at += 1;
-                break;
-            }
-            if (x == 13) & feed_after(s, at) {
-                passed = pass(places, passed, at - passed.start, at, 2);
-                at += 2;
-                break;
-            }
-            let n = characters_in(set, s, at);
-            if n == 0 {
-                let line = 1 + passed.feeds;
-                walked = Walked::Bad(line, at);
-                break 'lines;
-            }
-            at += n;
+    let mut left = n;
+    loop {
+        let line = line_at(s, at);
+        let end = line.end;
+        let next = line.next;
+        if left <= 1 {
+            let bytes = end - at;
+            return Place { start: at, bytes };
         }
+        if next == end {
+            return Place {
+                start: s.len(),
+                bytes: 0,
+            };
+        }
+        at = next;
+        left -= 1;
     }
-    Came { walked, passed }
 }
 
-// The same of lines that were passed, by their number where that is enough: none of the breaks is CR LF, or each is. Only
-// in bytes that are refused is the first unlike one looked for.
-fn counted(s: &[u8], passed: Passed) -> Parted
-    requires { ⌜ IsPassed (now s) passed ⌝ }
-    ensures { λ r. ⌜ r ≡ breaksIn (now (s .entry)) ⌝ }
-{
-    let lines = passed.feeds + 1;
-    if passed.returns == 0 {
-        return Parted::Alike(Break::Lf, lines);
-    }
-    if passed.returns == passed.feeds {
-        return Parted::Alike(Break::CrLf, lines);
-    }
-    parts(s)
+// Where a line holds CR or LF.
+pub enum Stray {
+    Nowhere,
+    At(usize),
 }
 
-// The rest of a list in which n lines are noted: an absent line gets the count of all bytes and 0.
-fn list_absent(s: &[u8], places: &mut [u16], n: usize)
-    requires { ⌜ (length (now s) ≤ greatest) × (length (now places) ≡ room) ⌝ }
-    requires { ⌜ Filled (now s) (now places) (length (now s)) (listedOf n) ⌝ }
-    ensures { λ _. ⌜ now (places .exit) ≡ listed (now (s .entry)) ⌝ }
+// The first byte of a line that is CR or LF. Nearly all bytes are above both, and are passed by one test.
+pub fn stray_break(s: &[u8]) -> Stray
+    ensures { λ r. ⌜ r ≡ strayAs (firstSuch ofBreak 0 (now (s .entry))) ⌝ }
 {
-    let end = s.len();
-    let mut i = n;
-    while i < WALK_LINES {
-        places[2 * i] = end as u16;
-        places[2 * i + 1] = 0;
+    let mut i = 0;
+    while i < s.len() {
+        if s[i] <= 13 {
+            if of_break(s[i]) {
+                return Stray::At(i);
+            }
+        }
         i += 1;
     }
+    Stray::Nowhere
 }
 
-// The list of bytes of which none is bad: their last line ends with them. 16 bits do not count more than GREATEST.
-fn list(s: &[u8], passed: Passed, places: &mut [u16; WALK_NUMBERS])
-    requires { ⌜ IsListed (now s) passed (now places) ⌝ }
-    ensures { λ _. ⌜ now (places .exit) ≡ listedShort (now (s .entry)) ⌝ }
+// How many bytes a break has.
+pub fn break_length(k: Break) -> usize
+    ensures { λ r. ⌜ r ≡ length (breakBytes k) ⌝ }
 {
-    if GREATEST < s.len() {
-        clear(places);
-        return;
+    match k {
+        Break::Lf => 1,
+        Break::CrLf => 2,
     }
-    let start = passed.start;
-    let feeds = passed.feeds;
-    note(places, feeds, start, s.len() - start);
-    list_absent(s, places, feeds + 1);
 }
 
-// The whole walk, over any bytes. The list that is lent gets start and length of each of 34 lines; it is cleared where
-// a byte is bad, or where the bytes are more than 16 bits count.
-pub fn walk(s: &[u8], set: Charset, places: &mut [u16; WALK_NUMBERS]) -> Told
-    ensures { λ r. ⌜ IsTold (now (s .entry)) (badPlace (ofSet set) (now (s .entry))) r (now (places .exit)) ⌝ }
+// How some bytes are parted into lines.
+pub enum Parted {
+    // all breaks are like the first: its kind (LF where there is none), and how many lines
+    Alike(Break, usize),
+    // the line that the first break unlike the first one ends
+    Unlike(usize),
+}
+
+// The breaks that were passed: the width of the first, and the line that the first unlike it ends; 0 where there is none.
+struct BreaksPassed {
+    first: usize,
+    unlike: usize,
+}
+
+const NO_BREAKS: BreaksPassed = BreaksPassed {
+    first: 0,
+    unlike: 0,
+};
+
+// One break more, which ends line n.
+fn held(breaks: BreaksPassed, width: usize, n: usize) -> BreaksPassed
+    ensures { λ r. ⌜ r ≡ heldBy breaks width n ⌝ }
 {
-    let came = come(s, set, places);
-    let walked = came.walked;
-    match walked {
-        Walked::Bad(line, at) => {
-            clear(places);
-            Told {
-                walked: Walked::Bad(line, at),
-                parted: Parted::Alike(Break::Lf, 1),
-            }
+    let first = breaks.first;
+    let unlike = breaks.unlike;
+    if first == 0 {
+        return BreaksPassed {
+            first: width,
+            unlike,
+        };
+    }
+    if (unlike == 0) & (width != first) {
+        return BreaksPassed { first, unlike: n };
+    }
+    BreaksPassed { first, unlike }
+}
+
+// The kind of a break, by its width.
+fn break_of(width: usize) -> Break
+    ensures { λ r. ⌜ r ≡ ofWidth width ⌝ }
+{
+    if width == 2 { Break::CrLf } else { Break::Lf }
+}
+
+// How n lines are parted, if these are the breaks between them.
+fn parted_by(breaks: BreaksPassed, n: usize) -> Parted
+    ensures { λ r. ⌜ r ≡ partedBy breaks n ⌝ }
+{
+    let unlike = breaks.unlike;
+    if unlike == 0 {
+        return Parted::Alike(break_of(breaks.first), n);
+    }
+    Parted::Unlike(unlike)
+}
+
+// How the lines of any bytes are parted, break after break.
+pub fn parts(s: &[u8]) -> Parted
+    ensures { λ r. ⌜ r ≡ breaksIn (now (s .entry)) ⌝ }
+{
+    let mut breaks = NO_BREAKS;
+    let mut at = 0;
+    let mut n = 1;
+    loop {
+        let line = line_at(s, at);
+        let end = line.end;
+        let next = line.next;
+        if next == end {
+            return parted_by(breaks, n);
         }
-        Walked::Clean => {
-            let passed = came.passed;
-            list(s, passed, places);
-            Told {
-                walked: Walked::Clean,
-                parted: counted(s, passed),
-            }
-        }
+        breaks = held(breaks, next - end, n);
+        at = next;
+        n += 1;
     }
 }

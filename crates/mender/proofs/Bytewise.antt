@@ -15,12 +15,12 @@ pub data Sort : ℕ → Type 0 where
   other : {x : ℕ} → eqb x 10 ≡ false → eqb x 32 ≡ false → Sort x
 
 pub sortOf : (x : ℕ) → Sort x
-sortOf x = go (eqb x 10) refl (eqb x 32) refl
+sortOf x = by-cases (eqb x 10) refl (eqb x 32) refl
   where
-    go : (a : Bool) → eqb x 10 ≡ a → (b : Bool) → eqb x 32 ≡ b → Sort x
-    go true e b f = subst Sort (sym (eqb-true x 10 e)) feed
-    go false e true f = subst Sort (sym (eqb-true x 32 f)) blank
-    go false e false f = other e f
+    by-cases : (a : Bool) → eqb x 10 ≡ a → (b : Bool) → eqb x 32 ≡ b → Sort x
+    by-cases true e b f = subst Sort (sym (eqb-true x 10 e)) feed
+    by-cases false e true f = subst Sort (sym (eqb-true x 32 f)) blank
+    by-cases false e false f = other e f
 
 -- a byte of any payload, and what stands behind it
 pub data Opening : ℕ → Bytes → Type 0 where
@@ -31,7 +31,7 @@ pub data Opening : ℕ → Bytes → Type 0 where
   firm : {x : ℕ} {s : Bytes} → eqb x 10 ≡ false → eqb x 13 ≡ false → eqb x 32 ≡ false → Opening x s
 
 pub openingOf : (x : ℕ) (s : Bytes) → Opening x s
-openingOf x s = go (sortOf x) (eqb x 13) refl
+openingOf x s = by-cases (sortOf x) (eqb x 13) refl
   where
     after-cr : (s : Bytes) → Opening 13 s
     after-cr [] = lone-cr refl
@@ -41,8 +41,8 @@ openingOf x s = go (sortOf x) (eqb x 13) refl
         at true e = subst (λ (z : ℕ). Opening 13 (z ∷ s)) (sym (eqb-true y 10 e)) cr-lf
         at false e = lone-cr e
 
-    go : {x : ℕ} → Sort x → (b : Bool) → eqb x 13 ≡ b → Opening x s
-    go feed b e = lone-lf
-    go blank b e = space
-    go {x} (other l p) true e = subst (λ (z : ℕ). Opening z s) (sym (eqb-true x 13 e)) (after-cr s)
-    go (other l p) false e = firm l e p
+    by-cases : {x : ℕ} → Sort x → (b : Bool) → eqb x 13 ≡ b → Opening x s
+    by-cases feed b e = lone-lf
+    by-cases blank b e = space
+    by-cases {x} (other l p) true e = subst (λ (z : ℕ). Opening z s) (sym (eqb-true x 13 e)) (after-cr s)
+    by-cases (other l p) false e = firm l e p

@@ -88,11 +88,11 @@ all-cropped (x ∷ s) h =
 shortened-cropped : (i : ℕ) (q : Bytes) → Cropped q (shortened i q)
 unfolding shortened lineFeeds howMany
 shortened-cropped i [] = record { shorter = omega arith; breaks = refl; spaces = refl }
-shortened-cropped i (x ∷ q) = go (leb 31 i && every isLf (x ∷ q)) refl (shortened-cropped (lineAfter i x) q)
+shortened-cropped i (x ∷ q) = by-cases (leb 31 i && every isLf (x ∷ q)) refl (shortened-cropped (lineAfter i x) q)
   where
-    go : (b : Bool) → leb 31 i && every isLf (x ∷ q) ≡ b → Cropped q (shortened (lineAfter i x) q) → Cropped (x ∷ q) (cond b [] (x ∷ shortened (lineAfter i x) q))
-    go true e h = all-cropped (x ∷ q) (and-eq-true-iff (leb 31 i) (every isLf (x ∷ q)) .0 e .1)
-    go false e h = record { shorter = omega (arith, h .shorter); breaks = omega (arith, h .breaks); spaces = omega (arith, h .spaces) }
+    by-cases : (b : Bool) → leb 31 i && every isLf (x ∷ q) ≡ b → Cropped q (shortened (lineAfter i x) q) → Cropped (x ∷ q) (cond b [] (x ∷ shortened (lineAfter i x) q))
+    by-cases true e h = all-cropped (x ∷ q) (and-eq-true-iff (leb 31 i) (every isLf (x ∷ q)) .0 e .1)
+    by-cases false e h = record { shorter = omega (arith, h .shorter); breaks = omega (arith, h .breaks); spaces = omega (arith, h .spaces) }
 
 pub adds-up : (p : Bytes) → AddsUp p (reworked p) (repairsOf p)
 adds-up p =

@@ -19,11 +19,11 @@ use Rattle.mender.proofs.Bytewise.{Sort, feed, blank, other, sortOf}
 -- the line after a byte, and the breaks behind it
 line-after : (i x : ℕ) (q : Bytes) → lineAfter i x + lineFeeds q ≡ i + lineFeeds (x ∷ q)
 unfolding lineFeeds
-line-after i x q = go (eqb x 10)
+line-after i x q = by-cases (eqb x 10)
   where
-    go : (b : Bool) → cond b (suc i) i + lineFeeds q ≡ i + (cond b 1 0 + lineFeeds q)
-    go true = omega arith
-    go false = omega arith
+    by-cases : (b : Bool) → cond b (suc i) i + lineFeeds q ≡ i + (cond b 1 0 + lineFeeds q)
+    by-cases true = omega arith
+    by-cases false = omega arith
 
 -- an LF at the end goes, where line 31 has come
 feed-goes : (i : ℕ) (q : Bytes) → 31 ≤ i + lineFeeds q → shortened i (q ++ (10 ∷ [])) ≡ shortened i q

@@ -59,15 +59,15 @@ data Space (i : ℕ) (s : Bytes) : Type 0 where
   left : rest i (32 ∷ s) ≡ 32 ∷ rest i s → Space i s
 
 spaceOf : (i : ℕ) (s : Bytes) → Space i s
-spaceOf i s = go (spaceless i) refl
+spaceOf i s = by-cases (spaceless i) refl
   where
     outside : (b : Bool) → padding (asLf s) ≡ b → rest i (32 ∷ s) ≡ cond b (rest i s) (32 ∷ rest i s) → Space i s
     outside true e h = ends e h
     outside false e h = left h
 
-    go : (b : Bool) → spaceless i ≡ b → Space i s
-    go true e = within e (ap (swept i) (space-is s) ∙ swept-taken i (asLf s) e)
-    go false e = outside (padding (asLf s)) refl (ap (swept i) (space-is s) ∙ swept-space i (asLf s) e)
+    by-cases : (b : Bool) → spaceless i ≡ b → Space i s
+    by-cases true e = within e (ap (swept i) (space-is s) ∙ swept-taken i (asLf s) e)
+    by-cases false e = outside (padding (asLf s)) refl (ap (swept i) (space-is s) ∙ swept-space i (asLf s) e)
 
 -- a payload of which LF alone is left has only breaks and spaces
 abbrev Loose : ℕ → Bytes → Type 0
@@ -110,11 +110,11 @@ made i s = shortened i (rest i s)
 -- a break, and what follows it, goes or stays
 like-break : (i : ℕ) (w s : Bytes) → rest i w ≡ 10 ∷ rest (suc i) s → Like i w (10 ∷ made (suc i) s) → Like i w (made i w)
 unfolding shortened
-like-break i w s e k = rw e (go (leb 31 i && every isLf (rest (suc i) s)) refl)
+like-break i w s e k = rw e (by-cases (leb 31 i && every isLf (rest (suc i) s)) refl)
   where
-    go : (b : Bool) → leb 31 i && every isLf (rest (suc i) s) ≡ b → Like i w (cond b [] (10 ∷ made (suc i) s))
-    go true h = let (a, c) = and-eq-true-iff _ _ .0 h in last-lines (leb-true 31 i a) (only-loose i w (rw e c))
-    go false h = k
+    by-cases : (b : Bool) → leb 31 i && every isLf (rest (suc i) s) ≡ b → Like i w (cond b [] (10 ∷ made (suc i) s))
+    by-cases true h = let (a, c) = and-eq-true-iff _ _ .0 h in last-lines (leb-true 31 i a) (only-loose i w (rw e c))
+    by-cases false h = k
 
 -- any other byte that is left
 like-left : (i x : ℕ) (w s : Bytes) → eqb x 10 ≡ false → rest i w ≡ x ∷ rest i s → Like i w (x ∷ made i s) → Like i w (made i w)
@@ -161,11 +161,11 @@ same-firm end = refl
 same-firm (lf r) = same-firm r
 same-firm (cr-lf r) = same-firm r
 same-firm (cr e r) = same-firm r
-same-firm (stays {x = x} {s = s} {t = t} o r) = go (loose x) (same-firm r)
+same-firm (stays {x = x} {s = s} {t = t} o r) = by-cases (loose x) (same-firm r)
   where
-    go : (b : Bool) → firmBytes s ≡ firmBytes t → cond b (firmBytes s) (x ∷ firmBytes s) ≡ cond b (firmBytes t) (x ∷ firmBytes t)
-    go true ih = ih
-    go false ih = ap (λ (r : Bytes). x ∷ r) ih
+    by-cases : (b : Bool) → firmBytes s ≡ firmBytes t → cond b (firmBytes s) (x ∷ firmBytes s) ≡ cond b (firmBytes t) (x ∷ firmBytes t)
+    by-cases true ih = ih
+    by-cases false ih = ap (λ (r : Bytes). x ∷ r) ih
 same-firm (at-line-end e r) = same-firm r
 same-firm (within-line e r) = same-firm r
 same-firm (last-lines {s = s} h e) = none-firm s e

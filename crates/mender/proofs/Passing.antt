@@ -13,11 +13,11 @@ use Rattle.sieve.specs.Characters.{lineFeeds}
 use Rattle.mender.specs.declared.Reach.{Reach}
 use Rattle.mender.specs.declared.Tally.{Tally}
 use Rattle.mender.specs.Steps.{asLf, despaced, howMany}
-use Rattle.mender.specs.Sweeping.{Carries, swept, CanPut, Farther, Passed, CanPass, IsSwept}
+use Rattle.mender.specs.Sweeping.{Carries, swept, CanPut, Farther, SweptTo, CanPass, IsSwept}
 use Rattle.mender.proofs.Counted.{despaced-fewer}
 use Rattle.mender.proofs.Sweeps.{swept-none, pending-end, pending-none}
 
-pub first-byte : (p room : Bytes) → Passed p 0 (record { reach = record { at = 0; solid = 0; line = 1 }; breaks = 0; pairs = 0 }) room
+pub first-byte : (p room : Bytes) → SweptTo p 0 (record { reach = record { at = 0; solid = 0; line = 1 }; breaks = 0; pairs = 0 }) room
 unfolding swept lineFeeds
 first-byte p room =
     record {
@@ -53,7 +53,7 @@ module _ (p : Bytes) (i : ℕ) (t : Tally) (room : Bytes) (can : CanPass p i t r
 
   -- step 1 gives the byte y, which is put
   module _ (y : ℕ) {r : Reach} {after : Bytes} (step : asLf (drop i p) ≡ y ∷ asLf behind) (moved : Farther (t .reach) r) (kept : Carries y (t .reach) room r after) where
-    puts : (breaks : ℕ) → breaks ≡ t .breaks + cond (eqb x 13) 1 0 → breaks ≤ t .breaks + 1 → Passed p (i + 1) (record { reach = r; breaks = breaks; pairs = t .pairs }) after
+    puts : (breaks : ℕ) → breaks ≡ t .breaks + cond (eqb x 13) 1 0 → breaks ≤ t .breaks + 1 → SweptTo p (i + 1) (record { reach = r; breaks = breaks; pairs = t .pairs }) after
     puts breaks is few =
         let passed = can .passed in
         record {
@@ -69,7 +69,7 @@ module _ (p : Bytes) (i : ℕ) (t : Tally) (room : Bytes) (can : CanPass p i t r
 
   -- any other byte than CR
   pub after-byte : eqb x 13 ≡ false → {r : Reach} {after : Bytes} → Farther (t .reach) r → Carries x (t .reach) room r after
-      → Passed p (i + 1) (record { reach = r; breaks = t .breaks; pairs = t .pairs }) after
+      → SweptTo p (i + 1) (record { reach = r; breaks = t .breaks; pairs = t .pairs }) after
   unfolding asLf
   after-byte is moved kept =
       let none : _≡_ {A = ℕ} (cond (eqb x 13) 1 0) 0 = rw is in
@@ -81,12 +81,12 @@ module _ (p : Bytes) (i : ℕ) (t : Tally) (room : Bytes) (can : CanPass p i t r
 
     -- a CR that no LF follows
     pub after-lone : eqb (getD (drop i p) 1 0) 10 ≡ false → {r : Reach} {after : Bytes} → Farther (t .reach) r
-        → Carries 10 (t .reach) room r after → Passed p (i + 1) (record { reach = r; breaks = t .breaks + 1; pairs = t .pairs }) after
+        → Carries 10 (t .reach) room r after → SweptTo p (i + 1) (record { reach = r; breaks = t .breaks + 1; pairs = t .pairs }) after
     unfolding asLf
     after-lone alone moved kept = puts 10 (rw (here, is, rw here at alone)) moved kept (t .breaks + 1) (omega (arith, one)) (omega arith)
 
     -- CR LF: the CR goes
-    pub after-pair : eqb (getD (drop i p) 1 0) 10 ≡ true → Passed p (i + 1) (record { reach = t .reach; breaks = t .breaks + 1; pairs = t .pairs + 1 }) room
+    pub after-pair : eqb (getD (drop i p) 1 0) 10 ≡ true → SweptTo p (i + 1) (record { reach = t .reach; breaks = t .breaks + 1; pairs = t .pairs + 1 }) room
     unfolding asLf
     after-pair followed =
         let passed = can .passed in
@@ -103,7 +103,7 @@ module _ (p : Bytes) (i : ℕ) (t : Tally) (room : Bytes) (can : CanPass p i t r
         }
 
 -- after the last byte
-pub after-last : {p room : Bytes} {i : ℕ} {t : Tally} → Passed p i t room → length p ≤ i → length p ≤ length room
+pub after-last : {p room : Bytes} {i : ℕ} {t : Tally} → SweptTo p i t room → length p ≤ i → length p ≤ length room
     → IsSwept p (record { bytes = t .reach .solid; lines = t .reach .line; breaks = t .breaks; pairs = t .pairs }) room
 unfolding asLf howMany
 after-last {p} {room} {i} {t} passed h fits =

@@ -12,7 +12,7 @@ use Rattle.sieve.specs.declared.Fault.{Fault}
 use Rattle.sieve.specs.Bytes.{Bytes, over}
 use Rattle.sieve.specs.Lines.{billOf}
 use Rattle.sieve.specs.Paper.{paperFault}
-use Rattle.sieve.specs.Verdict.{Refusal, Verdict, accepted, refused, findings, first, settled, verdict}
+use Rattle.sieve.specs.Verdict.{Refusal, Verdict, accepted, refused, findings, first, decided, verdict}
 use Rattle.sieve.proofs.Findings.{each-none, found-none, verdict-is, clear}
 use Rattle.sieve.proofs.PaperLosesNothing.{one-fault}
 use Rattle.runs.specs.Laid.{overFitting}
@@ -63,11 +63,11 @@ pub record RefusedSo (p dest after : Bytes) (f : Fault) : Type 0 where
 
 pub refusal-changes-nothing : {p dest after : Bytes} {f : Fault} → IsMended p dest (Refused f) after → RefusedSo p dest after f
 unfolding mendAnswer
-refusal-changes-nothing {p} {dest} {after} {f} h = go (first (mendFindings p (mend p .bytes) (length dest))) refl (h .answer) (h .lent)
+refusal-changes-nothing {p} {dest} {after} {f} h = by-cases (first (mendFindings p (mend p .bytes) (length dest))) refl (h .answer) (h .lent)
   where
-    go : (o : Option Refusal) → first (mendFindings p (mend p .bytes) (length dest)) ≡ o → not-mended (paperFault f) ≡ mendedOnto (mend p) dest o .answer → after ≡ mendedOnto (mend p) dest o .lent → RefusedSo p dest after f
-    go none e a l = let z : _≡_ {A = ℕ} 0 1 = cc in absurd (omega arith)
-    go (some r) e a l = let g : paperFault f ≡ r = cc in record { is-found = e ∙ ap some (sym g); unchanged = l }
+    by-cases : (o : Option Refusal) → first (mendFindings p (mend p .bytes) (length dest)) ≡ o → not-mended (paperFault f) ≡ mendedOnto (mend p) dest o .answer → after ≡ mendedOnto (mend p) dest o .lent → RefusedSo p dest after f
+    by-cases none e a l = let z : _≡_ {A = ℕ} 0 1 = cc in absurd (omega arith)
+    by-cases (some r) e a l = let g : paperFault f ≡ r = cc in record { is-found = e ∙ ap some (sym g); unchanged = l }
 
 -- what is written: the mended bytes, in the front of the destination, where nothing is found
 pub record WrittenSo (p dest after : Bytes) (n : ℕ) (c : Repairs) : Type 0 where
@@ -78,20 +78,20 @@ pub record WrittenSo (p dest after : Bytes) (n : ℕ) (c : Repairs) : Type 0 whe
 
 pub written-so : {p dest after : Bytes} {n : ℕ} {c : Repairs} → IsMended p dest (Length n c) after → WrittenSo p dest after n c
 unfolding mendAnswer
-written-so {p} {dest} {after} {n} {c} h = go (first (mendFindings p (mend p .bytes) (length dest))) refl (h .answer) (h .lent)
+written-so {p} {dest} {after} {n} {c} h = by-cases (first (mendFindings p (mend p .bytes) (length dest))) refl (h .answer) (h .lent)
   where
-    go : (o : Option Refusal) → first (mendFindings p (mend p .bytes) (length dest)) ≡ o → mended n c ≡ mendedOnto (mend p) dest o .answer → after ≡ mendedOnto (mend p) dest o .lent → WrittenSo p dest after n c
-    go none e a l = record { bytes = l; size = cc; repairs = cc; nothing-found = e }
-    go (some r) e a l = let z : _≡_ {A = ℕ} 0 1 = cc in absurd (omega arith)
+    by-cases : (o : Option Refusal) → first (mendFindings p (mend p .bytes) (length dest)) ≡ o → mended n c ≡ mendedOnto (mend p) dest o .answer → after ≡ mendedOnto (mend p) dest o .lent → WrittenSo p dest after n c
+    by-cases none e a l = record { bytes = l; size = cc; repairs = cc; nothing-found = e }
+    by-cases (some r) e a l = let z : _≡_ {A = ℕ} 0 1 = cc in absurd (omega arith)
 
 -- a payload itself, or what the four steps make of it
 either-way : (p : Bytes) → Mends p (mend p .bytes) (mend p .repairs)
 unfolding mend
-either-way p = go (verdict swiss p)
+either-way p = by-cases (verdict swiss p)
   where
-    go : (v : Verdict) → Mends p (mendBy v p .bytes) (mendBy v p .repairs)
-    go (accepted n k) = as-it-came
-    go (refused r) = by-steps (reworked-like p) (adds-up p)
+    by-cases : (v : Verdict) → Mends p (mendBy v p .bytes) (mendBy v p .repairs)
+    by-cases (accepted n k) = as-it-came
+    by-cases (refused r) = by-steps (reworked-like p) (adds-up p)
 
 few-repairs : {p out : Bytes} {c : Repairs} → length p ≤ mostMended → Mends p out c → AreFew c
 few-repairs h as-it-came = record { breaks = omega arith; spaces = omega arith; lines = omega arith }
@@ -115,7 +115,7 @@ module _ {p dest after : Bytes} {n : ℕ} {c : Repairs} (h : IsMended p dest (Le
 
   -- the reader accepts what is written
   pub written-is-accepted : verdict swiss (take n after) ≡ accepted (length (billOf out .lines)) (billOf out .break)
-  written-is-accepted = ap (verdict swiss) written-first ∙ verdict-is swiss out ∙ ap (settled (billOf out)) none-found
+  written-is-accepted = ap (verdict swiss) written-first ∙ verdict-is swiss out ∙ ap (decided (billOf out)) none-found
 
   -- so mending it again changes nothing
   pub mended-stays : mend (take n after) ≡ asItCame (take n after)

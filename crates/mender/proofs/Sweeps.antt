@@ -33,35 +33,35 @@ swept-other i x q l s = simp (s, l)
 -- a space in line 4 or line 29 goes, whether or not it ends the line
 pub swept-taken : (i : ℕ) (q : Bytes) → spaceless i ≡ true → swept i (32 ∷ q) ≡ swept i q
 unfolding swept unpadded unspaced
-swept-taken i q h = go (padding q)
+swept-taken i q h = by-cases (padding q)
   where
-    go : (b : Bool) → unspaced i (cond b (unpadded q) (32 ∷ unpadded q)) ≡ unspaced i (unpadded q)
-    go true = refl
-    go false = rw h
+    by-cases : (b : Bool) → unspaced i (cond b (unpadded q) (32 ∷ unpadded q)) ≡ unspaced i (unpadded q)
+    by-cases true = refl
+    by-cases false = rw h
 
 -- a space in another line
 pub swept-space : (i : ℕ) (q : Bytes) → spaceless i ≡ false → swept i (32 ∷ q) ≡ cond (padding q) (swept i q) (32 ∷ swept i q)
 unfolding swept unpadded unspaced
-swept-space i q h = go (padding q)
+swept-space i q h = by-cases (padding q)
   where
-    go : (b : Bool) → unspaced i (cond b (unpadded q) (32 ∷ unpadded q)) ≡ cond b (unspaced i (unpadded q)) (32 ∷ unspaced i (unpadded q))
-    go true = refl
-    go false = rw h
+    by-cases : (b : Bool) → unspaced i (cond b (unpadded q) (32 ∷ unpadded q)) ≡ cond b (unspaced i (unpadded q)) (32 ∷ unspaced i (unpadded q))
+    by-cases true = refl
+    by-cases false = rw h
 
 -- where spaces alone are left of a line, nothing is laid of it
 padding-ends : (i : ℕ) (q : Bytes) → spaceless i ≡ false → padding q ≡ lineEnds (swept i q)
 unfolding padding
 padding-ends i [] h = rw (swept-none i)
-padding-ends i (x ∷ q) h = go (sortOf x) (padding-ends i q h)
+padding-ends i (x ∷ q) h = by-cases (sortOf x) (padding-ends i q h)
   where
     spaces : (b : Bool) → padding q ≡ b → padding q ≡ lineEnds (swept i q) → padding q ≡ lineEnds (cond b (swept i q) (32 ∷ swept i q))
     spaces true e ih = ih
     spaces false e ih = e
 
-    go : {x : ℕ} → Sort x → padding q ≡ lineEnds (swept i q) → padding (x ∷ q) ≡ lineEnds (swept i (x ∷ q))
-    go feed ih = rw (swept-feed i q)
-    go blank ih = rw (swept-space i q h) (spaces (padding q) refl ih)
-    go {x} (other l s) ih = rw (swept-other i x q l s, s)
+    by-cases : {x : ℕ} → Sort x → padding q ≡ lineEnds (swept i q) → padding (x ∷ q) ≡ lineEnds (swept i (x ∷ q))
+    by-cases feed ih = rw (swept-feed i q)
+    by-cases blank ih = rw (swept-space i q h) (spaces (padding q) refl ih)
+    by-cases {x} (other l s) ih = rw (swept-other i x q l s, s)
 
 pub swept-pending : (i : ℕ) (q : Bytes) → spaceless i ≡ false → swept i (32 ∷ q) ≡ pending 1 (swept i q)
 unfolding pending
@@ -83,11 +83,11 @@ pending-other k x t l = rw l
 
 pub pending-none : (t : Bytes) → pending 0 t ≡ t
 unfolding pending
-pending-none t = go (lineEnds t)
+pending-none t = by-cases (lineEnds t)
   where
-    go : (b : Bool) → cond b t t ≡ t
-    go true = refl
-    go false = refl
+    by-cases : (b : Bool) → cond b t t ≡ t
+    by-cases true = refl
+    by-cases false = refl
 
 abbrev blanks : ℕ → Bytes
 blanks k = replicate k 32
@@ -102,11 +102,11 @@ one-before (suc k) t = ap (λ (r : Bytes). 32 ∷ r) (one-before k t)
 
 pending-more : (k : ℕ) (t : Bytes) → pending k (pending 1 t) ≡ pending (suc k) t
 unfolding pending
-pending-more k t = go (lineEnds t) refl
+pending-more k t = by-cases (lineEnds t) refl
   where
-    go : (b : Bool) → lineEnds t ≡ b → pending k (cond b t (32 ∷ t)) ≡ cond b t (blanks (suc k) ++ t)
-    go true e = rw e
-    go false e = one-before k t
+    by-cases : (b : Bool) → lineEnds t ≡ b → pending k (cond b t (32 ∷ t)) ≡ cond b t (blanks (suc k) ++ t)
+    by-cases true e = rw e
+    by-cases false e = one-before k t
 
 -- how far a sweep has come
 

@@ -49,7 +49,7 @@ pub record Farther (s r : Reach) : Type 0 where
   pub line : r .line ≤ s .line + 1
 
 -- before byte i of p: what lies in the room, and what was counted
-pub record Passed (p : Bytes) (i : ℕ) (t : Tally) (room : Bytes) : Type 0 where
+pub record SweptTo (p : Bytes) (i : ℕ) (t : Tally) (room : Bytes) : Type 0 where
   pub inside : i ≤ length p
   pub few : t .reach .at ≤ i
   pub few-lines : t .reach .line ≤ i + 1
@@ -62,7 +62,7 @@ pub record Passed (p : Bytes) (i : ℕ) (t : Tally) (room : Bytes) : Type 0 wher
 
 -- there is such a byte, and room for it
 pub record CanPass (p : Bytes) (i : ℕ) (t : Tally) (room : Bytes) : Type 0 where
-  pub passed : Passed p i t room
+  pub passed : SweptTo p i t room
   pub more : i < length p
   pub fits : length p ≤ length room
   pub few : length p ≤ mostMended

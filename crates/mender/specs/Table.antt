@@ -11,7 +11,7 @@ use Rattle.sieve.specs.Cases.{lines, put, putBytes, sameVerdict}
 use Rattle.sieve.specs.Characters.{breakWidth, passes, walk, badPlace, characters, lineFeeds}
 use Rattle.sieve.specs.Latin.{latin}
 use Rattle.sieve.specs.Lines.{cut, billOf, joined}
-use Rattle.sieve.specs.Mod97.{number, remainder97}
+use Rattle.sieve.specs.Mod97.{numeral, remainder97}
 use Rattle.sieve.specs.Mod10.{carry, checkDigit}
 use Rattle.sieve.specs.Verdict.{Refusal, refused, under, underAt, findings, first, verdict}
 use Rattle.swiss.specs.Base.{B}
@@ -20,18 +20,18 @@ use Rattle.mender.specs.Steps.{asLf, padding, unpadded, unspaced, shorte
 use Rattle.mender.specs.Mending.{Mend, mend, mendFindings}
 
 -- what comes of a payload, given room enough: bytes with breaks, spaces and lines counted; or a refusal
-pub data Outcome : Type 0 where
-  mends : Bytes → ℕ → ℕ → ℕ → Outcome
-  refuses : Refusal → Outcome
+pub data Expected : Type 0 where
+  mends : Bytes → ℕ → ℕ → ℕ → Expected
+  refuses : Refusal → Expected
 
-abbrev pub outcomeBy : Mend → Option Refusal → Outcome
+abbrev pub outcomeBy : Mend → Option Refusal → Expected
 outcomeBy m none = mends (m .bytes) (m .repairs .breaks) (m .repairs .spaces) (m .repairs .lines)
 outcomeBy m (some r) = refuses r
 
-abbrev pub outcome : Bytes → Outcome
+abbrev pub outcome : Bytes → Expected
 outcome p = let m = mend p in outcomeBy m (first (mendFindings p (m .bytes) 4096))
 
-abbrev pub sameOutcome : Outcome → Outcome → Bool
+abbrev pub sameOutcome : Expected → Expected → Bool
 sameOutcome (mends p b s l) (mends q c t m) = same p q && eqb b c && eqb s t && eqb l m
 sameOutcome (mends p b s l) (refuses r) = false
 sameOutcome (refuses r) (mends p b s l) = false
@@ -39,9 +39,9 @@ sameOutcome (refuses r) (refuses q) = sameVerdict (refused r) (refused q)
 
 pub record Row : Type 0 where
   pub payload : Bytes
-  pub gives : Outcome
+  pub gives : Expected
 
-abbrev pub row : Bytes → Outcome → Row
+abbrev pub row : Bytes → Expected → Row
 row p o = record { payload = p; gives = o }
 
 unfoldable pub allRight : List Row → Bool
@@ -83,5 +83,5 @@ mangled =
     ∷ []
 
 pub the-mangled-cases : T (allRight mangled)
-unfolding mangled allRight mend mendFindings asLf padding unpadded unspaced shortened howMany verdict swiss rules latin billOf cut breakWidth passes walk badPlace characters lineFeeds firstSuch findings first number remainder97 carry checkDigit flatten
+unfolding mangled allRight mend mendFindings asLf padding unpadded unspaced shortened howMany verdict swiss rules latin billOf cut breakWidth passes walk badPlace characters lineFeeds firstSuch findings first numeral remainder97 carry checkDigit flatten
 the-mangled-cases = tt

@@ -1,17 +1,17 @@
 // Mends a payload that a mail program mangled: its breaks, spaces that end a line or stand within the account and the
 // reference, and empty last lines.
+use lines::feed_after;
 use runs::lay;
 use sieve::Answer;
 use sieve::Fault;
 use swiss::Edition;
 use swiss_judge::verdict;
-use text::feed_after;
 ghost use mathlib.Core.Path.{_≡_};
 ghost use Prim.Native.Nat.{_+_, _≤_};
 ghost use lib.ListN.{length};
 ghost use Rattle.sieve.specs.Characters.{lineFeeds};
 ghost use Rattle.mender.specs.Mending.{mostMended, mendOf, bySteps, EndsByRoom, EndsByReader, IsMended};
-ghost use Rattle.mender.specs.Sweeping.{CanPut, Farther, Carries, CanPass, Passed, IsSwept, IsEnd};
+ghost use Rattle.mender.specs.Sweeping.{CanPut, Farther, Carries, CanPass, SweptTo, IsSwept, IsEnd};
 
 // Bytes that can be mended.
 const MOST: usize = 4096;
@@ -91,7 +91,7 @@ fn put(x: u8, s: Reach, room: &mut [u8]) -> Reach
 // Passes one byte more of a payload: what held before it holds after it.
 fn pass_byte(payload: &[u8], i: usize, t: Tally, room: &mut [u8]) -> Tally
     requires { ⌜ CanPass (now payload) i t (now room) ⌝ }
-    ensures { λ r. ⌜ Passed (now (payload .entry)) (i + 1) r (now (room .exit)) ⌝ }
+    ensures { λ r. ⌜ SweptTo (now (payload .entry)) (i + 1) r (now (room .exit)) ⌝ }
 {
     let reach = t.reach;
     let breaks = t.breaks;

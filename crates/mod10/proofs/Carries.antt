@@ -33,13 +33,13 @@ next-small k = ltb-true _ 10 (at (λ x. ltb x 10) nextCarry k refl refl)
 
 -- the table twice in a row: at a sum below 20 stands what stands at its remainder by 10
 pub twice : (k : ℕ) → k < 20 → getD (nextCarry ++ nextCarry) k 0 ≡ getD nextCarry (k % 10) 0
-twice k h = go (ltb k 10) refl
+twice k h = by-cases (ltb k 10) refl
   where
-    go : (b : Bool) → ltb k 10 ≡ b → getD (nextCarry ++ nextCarry) k 0 ≡ getD nextCarry (k % 10) 0
-    go true e =
+    by-cases : (b : Bool) → ltb k 10 ≡ b → getD (nextCarry ++ nextCarry) k 0 ≡ getD nextCarry (k % 10) 0
+    by-cases true e =
         let l = ltb-true k 10 e in
         List·getD-append nextCarry nextCarry 0 k l ∙ rw (mod-eq-of-lt l)
-    go false e =
+    by-cases false e =
         let l = ltb-false k 10 e in
         let d : k ≡ 10 + (k - 10) = omega (arith, l) in
         let m : k - 10 ≡ k % 10 = omega (arith, l) in

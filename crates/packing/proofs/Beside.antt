@@ -12,7 +12,7 @@ use Rattle.runs.proofs.Lays.{laid-in}
 use Rattle.sieve.specs.Bytes.{Bytes, over}
 use Rattle.sieve.specs.Verdict.{Refusal}
 use Rattle.packing.specs.Packing.{packedRefusal}
-use Rattle.packing.specs.Telling.{IsTold, toldOnto, roomBeside}
+use Rattle.packing.specs.Telling.{IsReply, replyOnto, roomBeside}
 use Rattle.packing.proofs.Telling.{enough-numbers, lentOn, lent-length, laid-back}
 
 -- the room that is lent on, of a destination and of a list for so many numbers
@@ -24,13 +24,13 @@ module _ (dest : Bytes) (list : List ℕ) (count room : ℕ) (is-room : room ≡
   module _ (bytes : Bytes) (numbers : List ℕ) where
     -- nothing is laid: both are as they were
     pub nothing-told : {o : Option Refusal} {r : Refusal} {after : Bytes} {n : ℕ} → o ≡ some r → after ≡ part → n ≡ packedRefusal r
-        → IsTold (toldOnto bytes numbers dest list o) n (putMid 0 (room - 0) dest after) list
+        → IsReply (replyOnto bytes numbers dest list o) n (putMid 0 (room - 0) dest after) list
     nothing-told found same e = record { number = rw found e; lent = rw found (ap (putMid 0 (room - 0) dest) same ∙ put-same 0 (room - 0) dest); told = rw found }
 
     -- some bytes are laid, so all of the destination was lent on, and the list has room
     pub all-told : {o : Option Refusal} {after : Bytes} {n : ℕ} {l : List ℕ} → o ≡ none → length numbers ≡ count → 0 < length bytes
         → length bytes ≤ length part → after ≡ over part bytes → n ≡ length bytes → l ≡ overFitting list numbers
-        → IsTold (toldOnto bytes numbers dest list o) n (putMid 0 (room - 0) dest after) l
+        → IsReply (replyOnto bytes numbers dest list o) n (putMid 0 (room - 0) dest after) l
     all-told {after = after} found counted some-bytes fits laid e filled =
         let some-room : roomBeside (length dest) (length list) count ≢ 0 = λ z. omega (arith, fits, lent-length dest (length list) count room is-room, is-room, z, some-bytes) in
         let (enough, whole) = enough-numbers (length dest) (length list) count some-room in

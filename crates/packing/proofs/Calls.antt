@@ -43,11 +43,11 @@ listed-in-front m l i h = rw (in-front m l (2 * (i - 1)) (omega arith), in-front
 
 -- a count that is outside is so as it is told
 told-outside : (a b count : ℕ) → b < 999 → within a b count ≡ false → within a b (toldCount count) ≡ false
-told-outside a b count few other = go (within a b (toldCount count)) refl
+told-outside a b count few other = by-cases (within a b (toldCount count)) refl
   where
-    go : (t : Bool) → within a b (toldCount count) ≡ t → t ≡ false
-    go false e = refl
-    go true e =
+    by-cases : (t : Bool) → within a b (toldCount count) ≡ t → t ≡ false
+    by-cases false e = refl
+    by-cases true e =
         let (low, high) = is-within a b (toldCount count) e in
         let inside = and-eq-true-iff (leb a count) (leb count b) .1 (le-leb a count (omega (arith, low, high, few)), le-leb count b (omega (arith, low, high, few))) in
         absurd (true≢false (sym inside ∙ other))
@@ -73,33 +73,33 @@ module _ {L : Layout} (serves : Serves L) where
   -- what is answered packs: a verdict, a reading, a writing of fewer than 1000 lines
 
   pub verdict-packs : (p : Bytes) → Packs (verdict L p)
-  verdict-packs p = go (verdict L p) refl
+  verdict-packs p = by-cases (verdict L p) refl
     where
-      go : (v : Verdict) → verdict L p ≡ v → Packs v
-      go (accepted n k) e = omega (arith, line-count serves p n k e, serves .few)
-      go (refused r) e = small-verdict serves p r e .line
+      by-cases : (v : Verdict) → verdict L p ≡ v → Packs v
+      by-cases (accepted n k) e = omega (arith, line-count serves p n k e, serves .few)
+      by-cases (refused r) e = small-verdict serves p r e .line
 
   pub reading-packs : {p : Bytes} {list after : List ℕ} {q : Answer} → IsRead L p list q after → Packs (paper q)
-  reading-packs {q = q} h = go q refl
+  reading-packs {q = q} h = by-cases q refl
     where
-      go : (r : Answer) → q ≡ r → Packs (paper r)
-      go (Accepted n k) e = omega (arith, read-count serves h e, serves .few)
-      go (Refused f) e = read-line serves h e
+      by-cases : (r : Answer) → q ≡ r → Packs (paper r)
+      by-cases (Accepted n k) e = omega (arith, read-count serves h e, serves .few)
+      by-cases (Refused f) e = read-line serves h e
 
   pub writing-packs : {text dest after : Bytes} {list : List ℕ} {count : ℕ} {k : Break} {w : Written} → IsWritten L text list count k dest w after → count < 1000 → PacksLaying (paperWritten w)
-  writing-packs {w = w} h low = go w refl
+  writing-packs {w = w} h low = by-cases w refl
     where
-      go : (r : Written) → w ≡ r → PacksLaying (paperWritten r)
-      go (Length n) e = omega (arith, write-length serves h e, serves .short)
-      go (NotWritten f) e = write-line serves h low e
+      by-cases : (r : Written) → w ≡ r → PacksLaying (paperWritten r)
+      by-cases (Length n) e = omega (arith, write-length serves h e, serves .short)
+      by-cases (NotWritten f) e = write-line serves h low e
 
   -- of a line that the layout may have, the walk's list says where it lies
   pub line-packed : {p : Bytes} {q : Answer} {places : List ℕ} → IsJudged L p q places → (i : ℕ) → linePlace (L .most-lines) places i (paper q) ≡ packedLine L p i (verdict L p)
-  line-packed {p} {q} {places} h i = rw (← h .answer) (go q refl)
+  line-packed {p} {q} {places} h i = rw (← h .answer) (by-cases q refl)
     where
-      go : (r : Answer) → q ≡ r → linePlace (L .most-lines) places i (paper r) ≡ packedLine L p i (paper r)
-      go (Refused f) e = refl
-      go (Accepted n k) e = listed (within 1 (L .most-lines) i) refl
+      by-cases : (r : Answer) → q ≡ r → linePlace (L .most-lines) places i (paper r) ≡ packedLine L p i (paper r)
+      by-cases (Refused f) e = refl
+      by-cases (Accepted n k) e = listed (within 1 (L .most-lines) i) refl
         where
           listed : (b : Bool) → within 1 (L .most-lines) i ≡ b → cond b (listedPlace places i) 0 ≡ cond b (listedPlace (linesLie L (billOf p)) i) 0
           listed false w = refl

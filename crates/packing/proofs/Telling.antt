@@ -39,27 +39,27 @@ unfolding first
 none-at-all bytes h = rw (lt-ltb 0 bytes h)
 
 pub beside : (fs : List (Option Refusal)) (bytes room numbers told : ℕ) → 0 < bytes → first (fs ++ (noRoom (roomBeside room numbers told) bytes ∷ [])) ≡ first (fs ++ (noRoom room bytes ∷ noRoom numbers told ∷ []))
-beside fs bytes room numbers told some-bytes = behind fs _ _ (go (ltb numbers told))
+beside fs bytes room numbers told some-bytes = behind fs _ _ (by-cases (ltb numbers told))
   where
-    go : (short : Bool) → first (noRoom (cond short 0 room) bytes ∷ []) ≡ first (noRoom room bytes ∷ found short (under 15 0) ∷ [])
-    go true = rw (none-at-all bytes some-bytes) (once (ltb room bytes) (under 15 0))
-    go false = alone (ltb room bytes) (under 15 0)
+    by-cases : (short : Bool) → first (noRoom (cond short 0 room) bytes ∷ []) ≡ first (noRoom room bytes ∷ found short (under 15 0) ∷ [])
+    by-cases true = rw (none-at-all bytes some-bytes) (once (ltb room bytes) (under 15 0))
+    by-cases false = alone (ltb room bytes) (under 15 0)
 
 -- no more room is lent on than there is
 pub no-more-room : (room numbers told : ℕ) → roomBeside room numbers told ≤ room
-no-more-room room numbers told = go (ltb numbers told)
+no-more-room room numbers told = by-cases (ltb numbers told)
   where
-    go : (short : Bool) → cond short 0 room ≤ room
-    go true = omega arith
-    go false = omega arith
+    by-cases : (short : Bool) → cond short 0 room ≤ room
+    by-cases true = omega arith
+    by-cases false = omega arith
 
 -- where all is lent on, the list has its numbers
 pub enough-numbers : (room numbers told : ℕ) → roomBeside room numbers told ≢ 0 → (told ≤ numbers) × (roomBeside room numbers told ≡ room)
-enough-numbers room numbers told h = go (ltb numbers told) refl h
+enough-numbers room numbers told h = by-cases (ltb numbers told) refl h
   where
-    go : (short : Bool) → ltb numbers told ≡ short → cond short 0 room ≢ 0 → (told ≤ numbers) × (cond short 0 room ≡ room)
-    go true e k = absurd (k refl)
-    go false e k = (ltb-false numbers told e, refl)
+    by-cases : (short : Bool) → ltb numbers told ≡ short → cond short 0 room ≢ 0 → (told ≤ numbers) × (cond short 0 room ≡ room)
+    by-cases true e k = absurd (k refl)
+    by-cases false e k = (ltb-false numbers told e, refl)
 
 -- where what is laid may be nothing: what is found with the room that is lent on, and with all that is lent
 
@@ -73,15 +73,15 @@ module _ (fs : List (Option Refusal)) (laid room numbers told : ℕ) where
   -- what is refused is refused so
   pub beside-stops : {r : Refusal} → first (fs ++ (noRoom (roomBeside room numbers told) laid ∷ [])) ≡ some r → first (fs ++ (noRoom room laid ∷ noRoom numbers told ∷ [])) ≡ some r
   unfolding first
-  beside-stops {r} = stops-behind fs _ _ (go (ltb numbers told))
+  beside-stops {r} = stops-behind fs _ _ (by-cases (ltb numbers told))
     where
       full : (b : Bool) → first (found b (under 15 0) ∷ []) ≡ some r → first (noRoom room laid ∷ found true (under 15 0) ∷ []) ≡ some r
       full true e = sym (once (ltb room laid) (under 15 0)) ∙ e
       full false e = absurd (Option·none-ne-some r e)
 
-      go : (short : Bool) → first (noRoom (cond short 0 room) laid ∷ []) ≡ some r → first (noRoom room laid ∷ found short (under 15 0) ∷ []) ≡ some r
-      go true e = full (ltb 0 laid) e
-      go false e = sym (alone (ltb room laid) (under 15 0)) ∙ e
+      by-cases : (short : Bool) → first (noRoom (cond short 0 room) laid ∷ []) ≡ some r → first (noRoom room laid ∷ found short (under 15 0) ∷ []) ≡ some r
+      by-cases true e = full (ltb 0 laid) e
+      by-cases false e = sym (alone (ltb room laid) (under 15 0)) ∙ e
 
   -- with enough numbers the same is found, or nothing
   pub beside-enough : told ≤ numbers → first (fs ++ (noRoom (roomBeside room numbers told) laid ∷ [])) ≡ first (fs ++ (noRoom room laid ∷ noRoom numbers told ∷ []))

@@ -9,10 +9,10 @@ use denote.Triple.Both.{Both}
 use Rattle.sieve.specs.declared.Break.{Break}
 use Rattle.sieve.specs.Bytes.{Bytes, within}
 use Rattle.sieve.specs.Lines.{Bill, written, billOf}
-use Rattle.sieve.specs.Places.{placed, entries}
+use Rattle.sieve.specs.Places.{placed, entries, walkLines, walkNumbers}
 use Rattle.sieve.specs.Reading.{readAnswer}
 use Rattle.sieve.specs.Rules.{Layout}
-use Rattle.sieve.specs.Verdict.{Verdict, accepted, refused}
+use Rattle.sieve.specs.Verdict.{Verdict, accepted, refused, verdict}
 use Rattle.sieve.specs.Writing.{writeAnswer}
 use Rattle.packing.specs.Packing.{packedPlace, packedVerdict, packedLaying, toldCount, breakFor}
 
@@ -22,8 +22,8 @@ listedPlace places i = packedPlace (getD places (2 * (i - 1)) 0) (getD places (2
 
 -- a list that lists so many lines, all of those that it has room for at most
 pub record Lists (places : List ℕ) (most : ℕ) : Type 0 where
-  pub numbers : length places ≡ 68
-  pub few : most ≤ 34
+  pub numbers : length places ≡ walkNumbers
+  pub few : most ≤ walkLines
 
 -- of an accepted payload, for line i of 1 to most; else 0
 abbrev pub linePlace : ℕ → List ℕ → ℕ → Verdict → ℕ
@@ -37,6 +37,9 @@ linesLie L b = entries (L .most-lines) (length (written b)) (placed 0 (b .break)
 -- so of a layout's payload and verdict
 abbrev pub packedLine : Layout → Bytes → ℕ → Verdict → ℕ
 packedLine L p i v = linePlace (L .most-lines) (linesLie L (billOf p)) i v
+
+abbrev pub packedLineIn : Layout → Bytes → ℕ → ℕ
+packedLineIn L p i = packedLine L p i (verdict L p)
 
 -- of a payload and a list, the number r and the list afterwards
 pub record IsPackedRead (L : Layout) (p : Bytes) (list : List ℕ) (r : ℕ) (after : List ℕ) : Type 0 where

@@ -9,6 +9,7 @@ ghost use mathlib.Core.Path.{_≡_};
 ghost use Prim.Native.Nat.{_≤_, _<_};
 ghost use lib.ListN.{length};
 ghost use Rattle.sieve.specs.Paper.{paperFault, paper, paperWritten};
+ghost use Rattle.sieve.specs.Places.{walkLines, walkNumbers};
 ghost use Rattle.packing.specs.Packing.{shift, packedRefusal, packedPlace, mark, packedCount, breakFor};
 ghost use Rattle.packing.specs.Packing.{Packs, packed, packedVerdict, PacksLaying, packedLaying, toldCount};
 ghost use Rattle.packing.specs.Calls.{listedPlace, Lists, linePlace};
@@ -37,7 +38,7 @@ pub fn packed_place(start: u16, bytes: u16) -> u32
 
 // 1000 times the start plus the length that a list of places gives for a line.
 fn listed_place(places: &[u16], line: usize) -> u32
-    requires { ⌜ (length (now places) ≡ 68) × (1 ≤ line) × (line ≤ 34) ⌝ }
+    requires { ⌜ (length (now places) ≡ walkNumbers) × (1 ≤ line) × (line ≤ walkLines) ⌝ }
     ensures { λ r. ⌜ r ≡ listedPlace (now (places .entry)) line ⌝ }
 {
     let i = 2 * (line - 1);

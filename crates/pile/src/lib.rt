@@ -13,7 +13,7 @@ ghost use Rattle.sieve.specs.Bytes.{over};
 ghost use Rattle.sieve.specs.Paper.{paper};
 ghost use Rattle.sieve.specs.Verdict.{first, verdict};
 ghost use Rattle.swiss.specs.Swiss.{swissIn};
-ghost use Rattle.pile.specs.Pile.{outsideAt, placeFindings, paperPiled, billNumbers, Small, handedEntries, Fillable, IsPiledTo};
+ghost use Rattle.pile.specs.Pile.{outsideAt, placeFindings, paperPiled, billNumbers, FitsEntry, handedPile, Judgeable, IsPiledTo};
 
 const MOST_BILLS: usize = 500;
 
@@ -59,7 +59,7 @@ pub fn gather_bills(buffer: &[u8], places: &[u32], count: usize) -> Piled
 
 // Puts a bill's answer into its own part of the list.
 fn lay_entry(part: &mut [u16], answer: Answer)
-    requires { ⌜ (length (now part) ≡ 2) × Small (paper answer) ⌝ }
+    requires { ⌜ (length (now part) ≡ 2) × FitsEntry (paper answer) ⌝ }
     ensures { λ _. ⌜ now (part .exit) ≡ billNumbers (paper answer) ⌝ }
 {
     match answer {
@@ -86,8 +86,8 @@ fn judge_bill(bill: &[u8], edition: Edition, part: &mut [u16])
 
 // Judges bill after bill. One bill's answer says nothing about another's.
 fn judge_all(buffer: &[u8], places: &[u32], count: usize, edition: Edition, answers: &mut [u16])
-    requires { ⌜ Fillable (now buffer) (now places) count (now answers) ⌝ }
-    ensures { λ _. ⌜ now (answers .exit) ≡ over (now (answers .entry)) (handedEntries edition buffer places count) ⌝ }
+    requires { ⌜ Judgeable (now buffer) (now places) count (now answers) ⌝ }
+    ensures { λ _. ⌜ now (answers .exit) ≡ over (now (answers .entry)) (handedPile edition buffer places count) ⌝ }
 {
     let mut i = 0;
     while i < count {

@@ -4,18 +4,19 @@ use native.Mathlib.Omega.{arith}
 use mathlib.Core.List.{List, [], _∷_, _++_}
 use mathlib.Core.Path.{_≡_, ap, _∙_}
 use lib.ListN.{length, getD, take, drop, length-append}
+use Rattle.sieve.specs.Places.{walkLines, walkNumbers}
 use Rattle.sieve.specs.Bytes.{Bytes}
 use Rattle.sieve.specs.Lines.{breakBytes, Next, gluedAfter, cut, linesOf}
 use Rattle.sieve.specs.Rules.{line}
 use Rattle.sieve.proofs.Cutting.{glued-cut}
 use Rattle.sieve.proofs.Placing.{entries-length, entry-at}
-use Rattle.text.specs.LinesIn.{linesFrom, linesIn, lineOf}
-use Rattle.text.proofs.LinesLie.{line-lies, line-text}
-use Rattle.places.specs.Listed.{capacity, room, listed}
+use Rattle.lines.specs.LinesIn.{linesFrom, linesIn, lineOf}
+use Rattle.lines.proofs.LinesLie.{line-lies, line-text}
+use Rattle.places.specs.Listed.{listed}
 
-pub listed-length : (p : Bytes) → length (listed p) ≡ room
+pub listed-length : (p : Bytes) → length (listed p) ≡ walkNumbers
 unfolding listed
-listed-length p = entries-length capacity (length p) (linesIn p)
+listed-length p = entries-length walkLines (length p) (linesIn p)
 
 inside : (at : ℕ) (l : Bytes) (ns : List Next) (i end : ℕ) → at + length (l ++ gluedAfter ns) ≡ end → let m = getD (linesFrom at l ns) i (record { start = end; text = [] }) in m .start + length (m .text) ≤ end
 unfolding linesFrom
@@ -30,11 +31,11 @@ pub record LineAtPlace (p : Bytes) (n start bytes : ℕ) : Type 0 where
   pub within : start + bytes ≤ length p
   pub is : take bytes (drop start p) ≡ line n (linesOf (cut p))
 
-pub listed-line : (p : Bytes) (n : ℕ) → 1 ≤ n → n ≤ capacity → LineAtPlace p n (getD (listed p) (2 * n - 2) 0) (getD (listed p) (2 * n - 1) 0)
+pub listed-line : (p : Bytes) (n : ℕ) → 1 ≤ n → n ≤ walkLines → LineAtPlace p n (getD (listed p) (2 * n - 2) 0) (getD (listed p) (2 * n - 1) 0)
 unfolding listed linesIn lineOf
 listed-line p n h k =
     let i = n - 1 in
-    let (a, b) = entry-at capacity i (length p) (linesIn p) (omega arith) in
+    let (a, b) = entry-at walkLines i (length p) (linesIn p) (omega arith) in
     let start : 2 * n - 2 ≡ 2 * i = omega arith in
     let bytes : 2 * n - 1 ≡ 2 * i + 1 = omega arith in
     rw (start, bytes, a, b)

@@ -7,19 +7,12 @@ use lib.Dec.{ltb, leb}
 use lib.ListN.{length, take, replicate}
 use Rattle.sieve.specs.Bytes.{Bytes}
 use Rattle.sieve.specs.Lines.{cut, linesOf}
-use Rattle.sieve.specs.Places.{entryNumbers, entries}
-use Rattle.text.specs.LinesIn.{linesIn, linesAt}
-
--- how many lines the list has room for, and how many numbers that are
-abbrev pub capacity : ℕ
-capacity = 34
-
-abbrev pub room : ℕ
-room = entryNumbers * capacity
+use Rattle.sieve.specs.Places.{entries, walkLines, walkNumbers}
+use Rattle.lines.specs.LinesIn.{linesIn, linesAt}
 
 -- an entry for each line that there is room for
 unfoldable pub listed : Bytes → List ℕ
-listed p = entries capacity (length p) (linesIn p)
+listed p = entries walkLines (length p) (linesIn p)
 
 -- the greatest number of 16 bits
 abbrev pub greatest : ℕ
@@ -27,15 +20,15 @@ greatest = 65535
 
 -- the list of bytes that 16 bits count; of more bytes all numbers are 0
 abbrev pub listedShort : Bytes → List ℕ
-listedShort p = cond (leb (length p) greatest) (listed p) (replicate room 0)
+listedShort p = cond (leb (length p) greatest) (listed p) (replicate walkNumbers 0)
 
 -- the list while it is filled: the numbers of n lines, and what is still to come from place `at` on
 abbrev pub Filled : Bytes → List ℕ → ℕ → ℕ → Type 0
-Filled p l at n = take (2 * n) l ++ entries (capacity - n) (length p) (linesAt p at) ≡ listed p
+Filled p l at n = take (2 * n) l ++ entries (walkLines - n) (length p) (linesAt p at) ≡ listed p
 
 -- how many of so many lines are listed
 abbrev pub listedOf : ℕ → ℕ
-listedOf n = cond (ltb n capacity) n capacity
+listedOf n = cond (ltb n walkLines) n walkLines
 
 -- the places are those of a payload's lines, and the count is theirs
 pub record Counted (p : Bytes) (places : List ℕ) (count : ℕ) : Type 0 where

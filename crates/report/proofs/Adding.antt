@@ -11,7 +11,7 @@ use lib.Dec.{ltb, lit≤}
 use borrow.Author.Tests.{lt-ltb, le-ltb, ltb-true, ltb-false}
 use Rattle.sieve.specs.Bytes.{Bytes, ascii}
 use Rattle.sieve.specs.Decimal.{digitByte, decimalIn}
-use Rattle.report.specs.Spoken.{decimal, spokenPlace}
+use Rattle.report.specs.Spoken.{inDecimal, spokenPlace}
 
 -- the front of a line, and a text behind it
 pub added-in-front : (n : ℕ) (d l rest : Bytes) → n ≤ length d → take (n + length l) (take n d ++ (l ++ rest)) ≡ take n d ++ l
@@ -33,32 +33,32 @@ pub more : {t line line′ : Bytes} {at r : ℕ} (u : Bytes) → Said t line at 
 more {t} u s (r, e) = record { size = omega (arith, s .size, length-append t u); text = rw (← s .text) e }
 
 module _ (n : ℕ) where
-  pub one-digit : n < 10 → decimal n ≡ digitByte (n % 10) ∷ []
-  unfolding decimal decimalIn
+  pub one-digit : n < 10 → inDecimal n ≡ digitByte (n % 10) ∷ []
+  unfolding inDecimal decimalIn
   one-digit h =
       let e : n % 10 ≡ n = omega arith in
       rw (lt-ltb n 10 h, e)
 
-  pub two-digits : 10 ≤ n → n / 10 < 10 → decimal n ≡ digitByte (n / 10 % 10) ∷ digitByte (n % 10) ∷ []
-  unfolding decimal decimalIn
+  pub two-digits : 10 ≤ n → n / 10 < 10 → inDecimal n ≡ digitByte (n / 10 % 10) ∷ digitByte (n % 10) ∷ []
+  unfolding inDecimal decimalIn
   two-digits g h =
       let e : n / 10 % 10 ≡ n / 10 = omega arith in
       rw (le-ltb n 10 g, lt-ltb (n / 10) 10 h, e)
 
-  pub three-digits : 10 ≤ n / 10 → n < 1000 → decimal n ≡ digitByte (n / 10 / 10) ∷ digitByte (n / 10 % 10) ∷ digitByte (n % 10) ∷ []
-  unfolding decimal decimalIn
+  pub three-digits : 10 ≤ n / 10 → n < 1000 → inDecimal n ≡ digitByte (n / 10 / 10) ∷ digitByte (n / 10 % 10) ∷ digitByte (n % 10) ∷ []
+  unfolding inDecimal decimalIn
   three-digits g h = rw (le-ltb n 10 (omega arith), le-ltb (n / 10) 10 g, lt-ltb (n / 10 / 10) 10 (omega arith))
 
 -- a number below 1000 has at most three
-pub few-digits : (n : ℕ) → n < 1000 → length (decimal n) ≤ 3
-few-digits n h = go (ltb n 10) (ltb (n / 10) 10) refl refl
+pub few-digits : (n : ℕ) → n < 1000 → length (inDecimal n) ≤ 3
+few-digits n h = by-cases (ltb n 10) (ltb (n / 10) 10) refl refl
   where
-    go : (a b : Bool) → ltb n 10 ≡ a → ltb (n / 10) 10 ≡ b → length (decimal n) ≤ 3
-    go true b e f = rw (one-digit n (ltb-true _ _ e)) (lit≤ tt)
-    go false true e f = rw (two-digits n (ltb-false _ _ e) (ltb-true _ _ f)) (lit≤ tt)
-    go false false e f = rw (three-digits n (ltb-false _ _ f) h) (lit≤ tt)
+    by-cases : (a b : Bool) → ltb n 10 ≡ a → ltb (n / 10) 10 ≡ b → length (inDecimal n) ≤ 3
+    by-cases true b e f = rw (one-digit n (ltb-true _ _ e)) (lit≤ tt)
+    by-cases false true e f = rw (two-digits n (ltb-false _ _ e) (ltb-true _ _ f)) (lit≤ tt)
+    by-cases false false e f = rw (three-digits n (ltb-false _ _ f) h) (lit≤ tt)
 
 -- and what is said of such a place at most nine characters
 pub place-short : (place : Option ℕ) → Option·getD place 0 < 1000 → length (spokenPlace place) ≤ 9
 place-short none h = lit≤ tt
-place-short (some at) h = omega (arith, few-digits at h, length-append (ascii " byte ") (decimal at))
+place-short (some at) h = omega (arith, few-digits at h, length-append (ascii " byte ") (inDecimal at))

@@ -12,11 +12,10 @@ ghost use mathlib.Core.Path.{_≡_};
 ghost use Prim.Native.Nat.{_+_, _≤_, _<_};
 ghost use lib.ListN.{length, take};
 ghost use Rattle.sieve.specs.Paper.{paper, paperFault};
-ghost use Rattle.sieve.specs.Verdict.{accepted, refused, verdict};
-ghost use Rattle.swiss.specs.Swiss.{swiss};
+ghost use Rattle.sieve.specs.Verdict.{accepted, refused};
 ghost use Rattle.runs.specs.Laid.{fitting, overFitting};
 ghost use Rattle.sieve.specs.Decimal.{digitByte};
-ghost use Rattle.report.specs.Spoken.{decimal, spokenPlace, spoken, Short};
+ghost use Rattle.report.specs.Spoken.{inDecimal, spokenFault, spoken, spokenOf, ThreeDigits};
 
 // Lays a text behind the first `at` bytes of a line, and answers where it ends.
 fn add(line: &mut [u8], at: usize, text: &[u8]) -> usize
@@ -37,8 +36,8 @@ fn digit(n: usize) -> u8
 // Lays a number in decimal digits behind the first `at` bytes of a line, and answers where it ends.
 fn add_number(line: &mut [u8], at: usize, n: usize) -> usize
     requires { ⌜ (n < 1000) × (at + 3 ≤ length (now line)) ⌝ }
-    ensures { λ r. ⌜ r ≡ at + length (decimal n) ⌝ }
-    ensures { λ r. ⌜ take r (now (line .exit)) ≡ take at (now (line .entry)) ++ decimal n ⌝ }
+    ensures { λ r. ⌜ r ≡ at + length (inDecimal n) ⌝ }
+    ensures { λ r. ⌜ take r (now (line .exit)) ≡ take at (now (line .entry)) ++ inDecimal n ⌝ }
 {
     let last = digit(n % 10);
     if n < 10 {
@@ -55,8 +54,8 @@ fn add_number(line: &mut [u8], at: usize, n: usize) -> usize
 // Lays a number with its name before it, as " line 4", and answers where it ends.
 fn add_named(line: &mut [u8], at: usize, name: &[u8], n: usize) -> usize
     requires { ⌜ (n < 1000) × (at + length (now name) + 3 ≤ length (now line)) ⌝ }
-    ensures { λ r. ⌜ r ≡ at + length (now (name .entry) ++ decimal n) ⌝ }
-    ensures { λ r. ⌜ take r (now (line .exit)) ≡ take at (now (line .entry)) ++ (now (name .entry) ++ decimal n) ⌝ }
+    ensures { λ r. ⌜ r ≡ at + length (now (name .entry) ++ inDecimal n) ⌝ }
+    ensures { λ r. ⌜ take r (now (line .exit)) ≡ take at (now (line .entry)) ++ (now (name .entry) ++ inDecimal n) ⌝ }
 {
     let behind = add(line, at, name);
     add_number(line, behind, n)
@@ -79,8 +78,8 @@ fn compose_accepted(line: &mut [u8], n: usize, k: Break) -> usize
 fn add_place(line: &mut [u8], at: usize, fault: Fault) -> usize
     requires { ⌜ (Option·getD (paperFault fault .place) 0 < 1000) × (at + 9 ≤ length (now line)) ⌝ }
     ensures { λ r. ⌜ r ≤ at + 9 ⌝ }
-    ensures { λ r. ⌜ r ≡ at + length (spokenPlace (paperFault fault .place)) ⌝ }
-    ensures { λ r. ⌜ take r (now (line .exit)) ≡ take at (now (line .entry)) ++ spokenPlace (paperFault fault .place) ⌝ }
+    ensures { λ r. ⌜ r ≡ at + length (spokenFault fault) ⌝ }
+    ensures { λ r. ⌜ take r (now (line .exit)) ≡ take at (now (line .entry)) ++ spokenFault fault ⌝ }
 {
     match fault {
         Fault::BadCharacter(_, place) => add_named(line, at, b" byte ", place),
@@ -89,7 +88,7 @@ fn add_place(line: &mut [u8], at: usize, fault: Fault) -> usize
 }
 
 fn compose_refused(line: &mut [u8], fault: Fault) -> usize
-    requires { ⌜ Short (refused (paperFault fault)) × (length (now line) ≡ 32) ⌝ }
+    requires { ⌜ ThreeDigits (refused (paperFault fault)) × (length (now line) ≡ 32) ⌝ }
     ensures { λ r. ⌜ r ≤ 32 ⌝ }
     ensures { λ r. ⌜ take r (now (line .exit)) ≡ spoken (refused (paperFault fault)) ⌝ }
 {
@@ -100,7 +99,7 @@ fn compose_refused(line: &mut [u8], fault: Fault) -> usize
 }
 
 fn compose(line: &mut [u8], answer: Answer) -> usize
-    requires { ⌜ Short (paper answer) × (length (now line) ≡ 32) ⌝ }
+    requires { ⌜ ThreeDigits (paper answer) × (length (now line) ≡ 32) ⌝ }
     ensures { λ r. ⌜ r ≤ 32 ⌝ }
     ensures { λ r. ⌜ take r (now (line .exit)) ≡ spoken (paper answer) ⌝ }
 {
@@ -113,8 +112,8 @@ fn compose(line: &mut [u8], answer: Answer) -> usize
 // Lays the line in the front of `dest`, and answers how many bytes it has; none where they do not fit, and `dest` stays
 // as it is. That they lie in `dest` follows, and is said so that a caller can take them out of it.
 pub fn report(payload: &[u8], dest: &mut [u8]) -> usize
-    ensures { λ r. ⌜ r ≡ fitting (now (dest .entry)) (spoken (verdict swiss (now (payload .entry)))) ⌝ }
-    ensures { λ _. ⌜ now (dest .exit) ≡ overFitting (now (dest .entry)) (spoken (verdict swiss (now (payload .entry)))) ⌝ }
+    ensures { λ r. ⌜ r ≡ fitting (now (dest .entry)) (spokenOf payload) ⌝ }
+    ensures { λ _. ⌜ now (dest .exit) ≡ overFitting (now (dest .entry)) (spokenOf payload) ⌝ }
     ensures { λ r. ⌜ r ≤ length (now (dest .exit)) ⌝ }
 {
     let answer = verdict(payload);

@@ -28,12 +28,12 @@ characters-parted (suc k) (x ∷ s) = omega (arith, characters-parted k s)
 
 -- a byte begins a character unless it is one of 80 to BF
 begins : (x : ℕ) (b : Bool) → (ltb x 0x80 || ltb 0xBF x) ≡ b → _≡_ {A = ℕ} (cond (within 0x80 0xBF x) 0 1) (cond b 1 0)
-begins x b h = rw (← h) (go (ltb x 0x80) (ltb 0xBF x) refl refl)
+begins x b h = rw (← h) (by-cases (ltb x 0x80) (ltb 0xBF x) refl refl)
   where
-    go : (low high : Bool) → ltb x 0x80 ≡ low → ltb 0xBF x ≡ high → _≡_ {A = ℕ} (cond (within 0x80 0xBF x) 0 1) (cond (low || high) 1 0)
-    go true high e f = rw (lt-leb 0x80 x (ltb-true x 0x80 e))
-    go false true e f = rw (lt-leb x 0xBF (ltb-true 0xBF x f), and-false)
-    go false false e f = rw (le-leb 0x80 x (ltb-false x 0x80 e), le-leb x 0xBF (ltb-false 0xBF x f))
+    by-cases : (low high : Bool) → ltb x 0x80 ≡ low → ltb 0xBF x ≡ high → _≡_ {A = ℕ} (cond (within 0x80 0xBF x) 0 1) (cond (low || high) 1 0)
+    by-cases true high e f = rw (lt-leb 0x80 x (ltb-true x 0x80 e))
+    by-cases false true e f = rw (lt-leb x 0xBF (ltb-true 0xBF x f), and-false)
+    by-cases false false e f = rw (le-leb 0x80 x (ltb-false x 0x80 e), le-leb x 0xBF (ltb-false 0xBF x f))
 
 -- while characters are counted: n in the first i bytes, and those of the bytes that are left are the others
 pub record Counting (s : Bytes) (i n : ℕ) : Type 0 where

@@ -59,11 +59,11 @@ module _ (d l : Bytes) where
   -- what is laid is within the destination
   pub room-fits : fitting d l ≤ length d
   unfolding fitting
-  room-fits = go (leb (length l) (length d)) refl
+  room-fits = by-cases (leb (length l) (length d)) refl
     where
-      go : (b : Bool) → leb (length l) (length d) ≡ b → cond b (length l) 0 ≤ length d
-      go true e = leb-true _ _ e
-      go false e = omega arith
+      by-cases : (b : Bool) → leb (length l) (length d) ≡ b → cond b (length l) 0 ≤ length d
+      by-cases true e = leb-true _ _ e
+      by-cases false e = omega arith
 
 -- the tail that is lent is what is left, and comes back behind what lies before it
 module _ (n : ℕ) (d : Bytes) where

@@ -130,7 +130,7 @@ pub fn lay(dest: &mut [u8], bytes: &[u8]) -> usize
     copy(bytes, dest)
 }
 
-// The same of numbers: copies them to the front of a list.
+// Copies numbers to the front of a list, and answers how many; none where they do not fit, and the list stays as it is.
 pub fn fill(list: &mut [u16], numbers: &[u16]) -> usize
     ensures { λ r. ⌜ r ≡ fitting (now (list .entry)) (now (numbers .entry)) ⌝ }
     ensures { λ _. ⌜ now (list .exit) ≡ overFitting (now (list .entry)) (now (numbers .entry)) ⌝ }

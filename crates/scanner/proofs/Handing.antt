@@ -18,23 +18,23 @@ use Rattle.swiss.specs.Limits.{mostBytes}
 use Rattle.swiss.specs.declared.Edition.{Edition}
 use Rattle.swiss.specs.Swiss.{swissIn}
 use Rattle.scanner.specs.declared.Scan.{Scan}
-use Rattle.scanner.specs.Scanning.{tooMany, heldIn, heldBy, mostIn, handed, closeAnswer, IsClosed}
+use Rattle.scanner.specs.Scanning.{tooMany, heldIn, bytesHeld, mostIn, handedOver, closeAnswer, IsClosed}
 
 module _ (t : Scan) (b : Bytes) where
   -- a bit does not fit, or it does
   pub over-or-in : (mostIn (t .bytes) < t .len + length b) ⊎ (t .len + length b ≤ mostIn (t .bytes))
-  over-or-in = go (ltb (mostIn (t .bytes)) (t .len + length b)) refl
+  over-or-in = by-cases (ltb (mostIn (t .bytes)) (t .len + length b)) refl
     where
-      go : (o : Bool) → ltb (mostIn (t .bytes)) (t .len + length b) ≡ o → (mostIn (t .bytes) < t .len + length b) ⊎ (t .len + length b ≤ mostIn (t .bytes))
-      go true e = inl (ltb-true (mostIn (t .bytes)) (t .len + length b) e)
-      go false e = inr (ltb-false (mostIn (t .bytes)) (t .len + length b) e)
+      by-cases : (o : Bool) → ltb (mostIn (t .bytes)) (t .len + length b) ≡ o → (mostIn (t .bytes) < t .len + length b) ⊎ (t .len + length b ≤ mostIn (t .bytes))
+      by-cases true e = inl (ltb-true (mostIn (t .bytes)) (t .len + length b) e)
+      by-cases false e = inr (ltb-false (mostIn (t .bytes)) (t .len + length b) e)
 
-  pub handed-over : mostIn (t .bytes) < t .len + length b → handed t b ≡ heldIn (t .bytes) tooMany
-  unfolding handed
+  pub handed-over : mostIn (t .bytes) < t .len + length b → handedOver t b ≡ heldIn (t .bytes) tooMany
+  unfolding handedOver
   handed-over h = rw (lt-ltb (mostIn (t .bytes)) (t .len + length b) h)
 
-  pub handed-in : t .len + length b ≤ mostIn (t .bytes) → handed t b ≡ heldIn (heldBy t ++ (b ++ drop (t .len + length b) (t .bytes))) (t .len + length b)
-  unfolding handed
+  pub handed-in : t .len + length b ≤ mostIn (t .bytes) → handedOver t b ≡ heldIn (bytesHeld t ++ (b ++ drop (t .len + length b) (t .bytes))) (t .len + length b)
+  unfolding handedOver
   handed-in h = rw (le-ltb (mostIn (t .bytes)) (t .len + length b) h)
 
 module _ (ed : Edition) (t : Scan) (list : List ℕ) where
@@ -46,5 +46,5 @@ module _ (ed : Edition) (t : Scan) (list : List ℕ) where
   unfolding closeAnswer
   held-closed h is =
       let e = le-ltb _ _ h in
-      let all : IsRead (swissIn ed) (heldBy t) list _ _ = rw sub-zero at is in
+      let all : IsRead (swissIn ed) (bytesHeld t) list _ _ = rw sub-zero at is in
       record { answer = rw e (all .answer); lent = rw e (all .lent) }

@@ -15,7 +15,7 @@ use Rattle.swiss.specs.Limits.{mostBytes}
 use Rattle.swiss.specs.declared.Edition.{Edition}
 use Rattle.swiss.specs.Swiss.{swissIn}
 use Rattle.scanner.specs.declared.Scan.{Scan}
-use Rattle.scanner.specs.Scanning.{tooMany, heldIn, heldBy, mostIn, handed, handedAll, closeAnswer}
+use Rattle.scanner.specs.Scanning.{tooMany, heldIn, bytesHeld, mostIn, handedOver, handedAll, closeAnswer}
 use Rattle.scanner.specs.Holding.{Holds, whole, overfull}
 use Rattle.scanner.proofs.Handing.{over-or-in, handed-over, handed-in}
 
@@ -29,39 +29,39 @@ module _ (t : Scan) (b : Bytes) where
   rest = drop (t .len + length b) (t .bytes)
 
   module _ (fits : t .len + length b ≤ mostIn (t .bytes)) where
-    front : length (heldBy t ++ b) ≡ t .len + length b
-    front = length-append (heldBy t) b ∙ ap (λ (n : ℕ). n + length b) (length-take-le (t .len) (t .bytes) (omega (arith, fits)))
+    front : length (bytesHeld t ++ b) ≡ t .len + length b
+    front = length-append (bytesHeld t) b ∙ ap (λ (n : ℕ). n + length b) (length-take-le (t .len) (t .bytes) (omega (arith, fits)))
 
-    laid : heldBy t ++ (b ++ rest) ≡ (heldBy t ++ b) ++ rest
-    laid = sym (append-assoc (heldBy t) b rest)
+    laid : bytesHeld t ++ (b ++ rest) ≡ (bytesHeld t ++ b) ++ rest
+    laid = sym (append-assoc (bytesHeld t) b rest)
 
-    as-long : length (heldBy t ++ (b ++ rest)) ≡ length (t .bytes)
-    as-long = ap length laid ∙ length-append (heldBy t ++ b) rest ∙ omega (arith, front, length-drop (t .len + length b) (t .bytes), fits)
+    as-long : length (bytesHeld t ++ (b ++ rest)) ≡ length (t .bytes)
+    as-long = ap length laid ∙ length-append (bytesHeld t ++ b) rest ∙ omega (arith, front, length-drop (t .len + length b) (t .bytes), fits)
 
-    then-held : take (t .len + length b) (heldBy t ++ (b ++ rest)) ≡ heldBy t ++ b
-    then-held = ap (take (t .len + length b)) laid ∙ take-at (heldBy t ++ b) rest (t .len + length b) front
+    then-held : take (t .len + length b) (bytesHeld t ++ (b ++ rest)) ≡ bytesHeld t ++ b
+    then-held = ap (take (t .len + length b)) laid ∙ take-at (bytesHeld t ++ b) rest (t .len + length b) front
 
-    pub then-rest : drop (t .len + length b) (heldBy t ++ (b ++ rest)) ≡ rest
-    then-rest = ap (drop (t .len + length b)) laid ∙ drop-at (heldBy t ++ b) rest (t .len + length b) front
+    pub then-rest : drop (t .len + length b) (bytesHeld t ++ (b ++ rest)) ≡ rest
+    then-rest = ap (drop (t .len + length b)) laid ∙ drop-at (bytesHeld t ++ b) rest (t .len + length b) front
 
-    pub then-front : take (t .len) (heldBy t ++ (b ++ rest)) ≡ heldBy t
-    then-front = take-at (heldBy t) (b ++ rest) (t .len) (length-take-le (t .len) (t .bytes) (omega (arith, fits)))
+    pub then-front : take (t .len) (bytesHeld t ++ (b ++ rest)) ≡ bytesHeld t
+    then-front = take-at (bytesHeld t) (b ++ rest) (t .len) (length-take-le (t .len) (t .bytes) (omega (arith, fits)))
 
-  pub same-room : length (handed t b .bytes) ≡ length (t .bytes)
+  pub same-room : length (handedOver t b .bytes) ≡ length (t .bytes)
   same-room = ⊎-elim (λ over. ap (λ (u : Scan). length (u .bytes)) (handed-over t b over)) (λ fits. ap (λ (u : Scan). length (u .bytes)) (handed-in t b fits) ∙ as-long fits) (over-or-in t b)
 
 pub all-same-room : (t : Scan) (bits : List Bytes) → length (handedAll t bits .bytes) ≡ length (t .bytes)
 unfolding handedAll
 all-same-room t [] = refl
-all-same-room t (b ∷ bs) = all-same-room (handed t b) bs ∙ same-room t b
+all-same-room t (b ∷ bs) = all-same-room (handedOver t b) bs ∙ same-room t b
 
-pub hand-holds : {p : Bytes} {t : Scan} (b : Bytes) → Holds p t → Holds (p ++ b) (handed t b)
+pub hand-holds : {p : Bytes} {t : Scan} (b : Bytes) → Holds p t → Holds (p ++ b) (handedOver t b)
 hand-holds {p} {t} b (whole few len is) = ⊎-elim more behind (over-or-in t b)
   where
-    more : mostIn (t .bytes) < t .len + length b → Holds (p ++ b) (handed t b)
+    more : mostIn (t .bytes) < t .len + length b → Holds (p ++ b) (handedOver t b)
     more h = rw (handed-over t b h) (overfull (omega (arith, h, len, length-append p b)) refl)
 
-    behind : t .len + length b ≤ mostIn (t .bytes) → Holds (p ++ b) (handed t b)
+    behind : t .len + length b ≤ mostIn (t .bytes) → Holds (p ++ b) (handedOver t b)
     behind h =
         rw (handed-in t b h)
         (whole
@@ -89,14 +89,14 @@ module _ (ed : Edition) where
 
   -- in a room of 998 bytes, so many bytes of the front as the length says are read as the payload is
   module _ {p : Bytes} {t : Scan} (room : tooMany ≤ length (t .bytes)) where
-    pub held-judged : Holds p t → verdict (swissIn ed) (heldBy t) ≡ verdict (swissIn ed) p
+    pub held-judged : Holds p t → verdict (swissIn ed) (bytesHeld t) ≡ verdict (swissIn ed) p
     held-judged (whole few len is) = ap (verdict (swissIn ed)) is
     held-judged (overfull more len) =
-        too-many-refused (heldBy t) (omega (arith, len, length-take-le (t .len) (t .bytes) (omega (arith, len, room))))
+        too-many-refused (bytesHeld t) (omega (arith, len, length-take-le (t .len) (t .bytes) (omega (arith, len, room))))
         ∙ sym (too-many-refused p (omega (arith, more, room)))
 
-    pub held-read : (list : List ℕ) → Holds p t → readAnswer (swissIn ed) (heldBy t) list ≡ readAnswer (swissIn ed) p list
+    pub held-read : (list : List ℕ) → Holds p t → readAnswer (swissIn ed) (bytesHeld t) list ≡ readAnswer (swissIn ed) p list
     held-read list (whole few len is) = ap (λ (q : Bytes). readAnswer (swissIn ed) q list) is
     held-read list (overfull more len) =
-        refused-unlisted (swissIn ed) (heldBy t) list (under 2 0) (held-judged (overfull more len) ∙ too-many-refused p (omega (arith, more, room)))
+        refused-unlisted (swissIn ed) (bytesHeld t) list (under 2 0) (held-judged (overfull more len) ∙ too-many-refused p (omega (arith, more, room)))
         ∙ sym (refused-unlisted (swissIn ed) p list (under 2 0) (too-many-refused p (omega (arith, more, room))))

@@ -16,7 +16,7 @@ use Rattle.swiss.specs.Limits.{mostBytes}
 use Rattle.swiss.specs.declared.Edition.{Edition}
 use Rattle.swiss.specs.Swiss.{swissIn}
 use Rattle.scanner.specs.declared.Scan.{Scan}
-use Rattle.scanner.specs.Scanning.{fresh, tooMany, heldIn, heldBy, mostIn, handed, handedAll, handedInto, closeAnswer, IsClosed}
+use Rattle.scanner.specs.Scanning.{fresh, tooMany, heldIn, bytesHeld, mostIn, handedOver, handedAll, handedInto, closeAnswer, IsClosed}
 use Rattle.scanner.specs.Holding.{Holds, whole, overfull}
 use Rattle.scanner.proofs.Handing.{over-or-in, handed-over, handed-in}
 use Rattle.scanner.proofs.Holding.{then-front, then-rest, all-same-room, nothing-held, all-hold, close-answers, held-judged, held-read, too-many-refused}
@@ -56,13 +56,13 @@ module _ (ed : Edition) where
         ∙ read-too-many bits more list h
 
 -- a bit without bytes changes nothing
-pub nothing-handed : (t : Scan) → mostBytes ≤ length (t .bytes) → t .len ≤ tooMany → handed t [] ≡ t
+pub nothing-handed : (t : Scan) → mostBytes ≤ length (t .bytes) → t .len ≤ tooMany → handedOver t [] ≡ t
 nothing-handed t room few = ⊎-elim over fits (over-or-in t [])
   where
-    over : mostIn (t .bytes) < t .len + 0 → handed t [] ≡ t
+    over : mostIn (t .bytes) < t .len + 0 → handedOver t [] ≡ t
     over h = let same : tooMany ≡ t .len = omega (arith, h, room, few) in handed-over t [] h ∙ ap (heldIn (t .bytes)) same
 
-    fits : t .len + 0 ≤ mostIn (t .bytes) → handed t [] ≡ t
+    fits : t .len + 0 ≤ mostIn (t .bytes) → handedOver t [] ≡ t
     fits h = handed-in t [] h ∙ rw (add-zero (t .len), take-append-drop (t .len) (t .bytes))
 
 module _ (ed : Edition) where
@@ -72,14 +72,14 @@ module _ (ed : Edition) where
     lent-room : tooMany ≤ length (handedInto room bits .bytes)
     lent-room = omega (arith, enough, all-same-room (heldIn room 0) bits)
 
-    pub lent-however-cut : verdict (swissIn ed) (heldBy (handedInto room bits)) ≡ verdict (swissIn ed) (flatten bits)
+    pub lent-however-cut : verdict (swissIn ed) (bytesHeld (handedInto room bits)) ≡ verdict (swissIn ed) (flatten bits)
     lent-however-cut = held-judged ed lent-room (all-hold bits (nothing-held room))
 
-    pub lent-is-read : (list : List ℕ) → readAnswer (swissIn ed) (heldBy (handedInto room bits)) list ≡ readAnswer (swissIn ed) (flatten bits) list
+    pub lent-is-read : (list : List ℕ) → readAnswer (swissIn ed) (bytesHeld (handedInto room bits)) list ≡ readAnswer (swissIn ed) (flatten bits) list
     lent-is-read list = held-read ed lent-room list (all-hold bits (nothing-held room))
 
     -- once there are over 997 bytes it is 2, whatever follows
-    pub lent-too-many-is-2 : (more : List Bytes) (list : List ℕ) → mostBytes < length (flatten bits) → readAnswer (swissIn ed) (heldBy (handedAll (handedInto room bits) more)) list ≡ record { answer = refused (under 2 0); lent = list }
+    pub lent-too-many-is-2 : (more : List Bytes) (list : List ℕ) → mostBytes < length (flatten bits) → readAnswer (swissIn ed) (bytesHeld (handedAll (handedInto room bits) more)) list ≡ record { answer = refused (under 2 0); lent = list }
     lent-too-many-is-2 more list h =
         held-read ed (omega (arith, lent-room, all-same-room (handedInto room bits) more)) list (all-hold more (all-hold bits (nothing-held room)))
         ∙ read-too-many ed bits more list h
@@ -88,29 +88,29 @@ module _ (ed : Edition) where
 
 module _ (room : Bytes) (bits : List Bytes) where
   abbrev Held : Type 0
-  Held = (handedInto room bits .len ≡ length (flatten bits)) × (heldBy (handedInto room bits) ≡ flatten bits)
+  Held = (handedInto room bits .len ≡ length (flatten bits)) × (bytesHeld (handedInto room bits) ≡ flatten bits)
 
   pub few-held : length (flatten bits) ≤ mostIn room → Held
-  few-held h = go (all-hold bits (nothing-held room))
+  few-held h = by-cases (all-hold bits (nothing-held room))
     where
-      go : Holds (flatten bits) (handedInto room bits) → Held
-      go (whole few len is) = (len, is)
-      go (overfull more len) = absurd (omega (arith, more, h, all-same-room (heldIn room 0) bits))
+      by-cases : Holds (flatten bits) (handedInto room bits) → Held
+      by-cases (whole few len is) = (len, is)
+      by-cases (overfull more len) = absurd (omega (arith, more, h, all-same-room (heldIn room 0) bits))
 
   pub too-many-noted : (more : List Bytes) → mostIn room < length (flatten bits) → handedAll (handedInto room bits) more .len ≡ tooMany
-  too-many-noted more h = go (all-hold more (all-hold bits (nothing-held room)))
+  too-many-noted more h = by-cases (all-hold more (all-hold bits (nothing-held room)))
     where
-      go : Holds (flatten bits ++ flatten more) (handedAll (handedInto room bits) more) → handedAll (handedInto room bits) more .len ≡ tooMany
-      go (whole few len is) = absurd (omega (arith, few, h, length-append (flatten bits) (flatten more), all-same-room (handedInto room bits) more, all-same-room (heldIn room 0) bits))
-      go (overfull _ len) = len
+      by-cases : Holds (flatten bits ++ flatten more) (handedAll (handedInto room bits) more) → handedAll (handedInto room bits) more .len ≡ tooMany
+      by-cases (whole few len is) = absurd (omega (arith, few, h, length-append (flatten bits) (flatten more), all-same-room (handedInto room bits) more, all-same-room (heldIn room 0) bits))
+      by-cases (overfull _ len) = len
 
 -- one bit changes no byte before it and none behind it, and where it does not fit, none at all
 module _ (t : Scan) (b : Bytes) where
-  pub front-stays : take (t .len) (handed t b .bytes) ≡ heldBy t
+  pub front-stays : take (t .len) (handedOver t b .bytes) ≡ bytesHeld t
   front-stays = ⊎-elim (λ h. ap (λ (u : Scan). take (t .len) (u .bytes)) (handed-over t b h)) (λ h. ap (λ (u : Scan). take (t .len) (u .bytes)) (handed-in t b h) ∙ then-front t b h) (over-or-in t b)
 
-  pub rest-stays : drop (t .len + length b) (handed t b .bytes) ≡ drop (t .len + length b) (t .bytes)
+  pub rest-stays : drop (t .len + length b) (handedOver t b .bytes) ≡ drop (t .len + length b) (t .bytes)
   rest-stays = ⊎-elim (λ h. ap (λ (u : Scan). drop (t .len + length b) (u .bytes)) (handed-over t b h)) (λ h. ap (λ (u : Scan). drop (t .len + length b) (u .bytes)) (handed-in t b h) ∙ then-rest t b h) (over-or-in t b)
 
-  pub over-stays : mostIn (t .bytes) < t .len + length b → handed t b .bytes ≡ t .bytes
+  pub over-stays : mostIn (t .bytes) < t .len + length b → handedOver t b .bytes ≡ t .bytes
   over-stays h = ap (λ (u : Scan). u .bytes) (handed-over t b h)

@@ -28,23 +28,23 @@ abbrev pub heldIn : Bytes → ℕ → Scan
 heldIn room n = record { bytes = room; len = n }
 
 -- the bytes that are held, in the front of the room
-abbrev pub heldBy : Scan → Bytes
-heldBy t = take (t .len) (t .bytes)
+abbrev pub bytesHeld : Scan → Bytes
+bytesHeld t = take (t .len) (t .bytes)
 
 -- the most bytes that a room holds: those of the longest payload, if it has room for them
 abbrev pub mostIn : Bytes → ℕ
 mostIn room = min mostBytes (length room)
 
 -- a bit behind what is held; or, where it does not fit, that there were too many bytes
-unfoldable pub handed : Scan → Bytes → Scan
-handed t bit =
+unfoldable pub handedOver : Scan → Bytes → Scan
+handedOver t bit =
     cond (ltb (mostIn (t .bytes)) (t .len + length bit)) (record { bytes = t .bytes; len = tooMany })
-    (record { bytes = heldBy t ++ (bit ++ drop (t .len + length bit) (t .bytes)); len = t .len + length bit })
+    (record { bytes = bytesHeld t ++ (bit ++ drop (t .len + length bit) (t .bytes)); len = t .len + length bit })
 
 -- bit after bit
 unfoldable pub handedAll : Scan → List Bytes → Scan
 handedAll t [] = t
-handedAll t (b ∷ bs) = handedAll (handed t b) bs
+handedAll t (b ∷ bs) = handedAll (handedOver t b) bs
 
 -- the same in a room that is lent, whatever is in it: its length is 0 before the first bit
 abbrev pub handedInto : Bytes → List Bytes → Scan
@@ -52,7 +52,7 @@ handedInto room bits = handedAll (heldIn room 0) bits
 
 -- what is answered at the close under an edition, and what the list then holds: 2 where there were too many bytes, else what the reader answers on what is held
 unfoldable pub closeAnswer : Edition → Scan → List ℕ → Done Verdict
-closeAnswer e t list = cond (ltb mostBytes (t .len)) (record { answer = refused (under 2 0); lent = list }) (readAnswer (swissIn e) (heldBy t) list)
+closeAnswer e t list = cond (ltb mostBytes (t .len)) (record { answer = refused (under 2 0); lent = list }) (readAnswer (swissIn e) (bytesHeld t) list)
 
 -- of an edition, a scan and a list, the answer r and the list afterwards
 pub record IsClosed (e : Edition) (t : Scan) (list : List ℕ) (r : Answer) (after : List ℕ) : Type 0 where

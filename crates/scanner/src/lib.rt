@@ -5,7 +5,7 @@ use sieve::Answer;
 use sieve::Fault;
 use swiss::Edition;
 ghost use mathlib.Core.Path.{_≡_};
-ghost use Rattle.scanner.specs.Scanning.{fresh, heldIn, handed, IsClosed};
+ghost use Rattle.scanner.specs.Scanning.{fresh, heldIn, handedOver, IsClosed};
 
 // A length that notes that there were too many bytes.
 const TOO_MANY: usize = 998;
@@ -14,7 +14,7 @@ const TOO_MANY: usize = 998;
 // many these are then. Where it does not fit, or there were too many before, the answer is 998, and no byte has changed.
 pub fn hand_over(held: &mut [u8], length: usize, bit: &[u8]) -> usize
     ensures { λ r.
-        ⌜ heldIn (now (held .exit)) r ≡ handed (heldIn (now (held .entry)) length) (now (bit .entry)) ⌝ }
+        ⌜ heldIn (now (held .exit)) r ≡ handedOver (heldIn (now (held .entry)) length) (now (bit .entry)) ⌝ }
 {
     if Edition::MOST_BYTES < length {
         return TOO_MANY;
@@ -49,7 +49,7 @@ impl Scan {
 
     // A bit more: it is put behind what is held or, where it does not fit, it is noted that there were too many bytes.
     pub fn hand(self, bit: &[u8]) -> Scan
-        ensures { λ r. ⌜ r ≡ handed self (now (bit .entry)) ⌝ }
+        ensures { λ r. ⌜ r ≡ handedOver self (now (bit .entry)) ⌝ }
     {
         let mut bytes = self.bytes;
         let len = hand_over(&mut bytes, self.len, bit);

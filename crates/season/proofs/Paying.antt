@@ -13,7 +13,7 @@ use borrow.Author.Tests.{ltb-false, eqb-true, ne-eqb}
 use Rattle.sieve.specs.declared.Break.{Break}
 use Rattle.sieve.specs.Bytes.{Bytes, ascii, same}
 use Rattle.sieve.specs.Lines.{cut, linesOf, billOf}
-use Rattle.sieve.specs.Mod97.{number}
+use Rattle.sieve.specs.Mod97.{numeral}
 use Rattle.sieve.specs.Rules.{line, is, noText}
 use Rattle.sieve.specs.Verdict.{Refusal, Verdict, accepted, refused, aboutLines, findings, first, verdict}
 use Rattle.sieve.proofs.Bounds.{same-is, case-at-most}
@@ -32,7 +32,7 @@ mostCents = 99999999999
 
 -- an empty line stands for nothing
 pub nothing-due : (s : Bytes) → length s ≡ 0 → cents s ≡ 0
-unfolding cents number
+unfolding cents numeral
 nothing-due [] h = refl
 nothing-due (x ∷ s) h = absurd (omega arith)
 
@@ -45,11 +45,11 @@ pub line-due : (s : Bytes) → AmountLine s → length s ≢ 0 → Due s
 line-due s l h = amount-due s (is-amount s (amount s) h (l .formed)) (l .short)
 
 line-most : (s : Bytes) → AmountLine s → cents s ≤ mostCents
-line-most s l = go (eqb (length s) 0) refl
+line-most s l = by-cases (eqb (length s) 0) refl
   where
-    go : (b : Bool) → eqb (length s) 0 ≡ b → cents s ≤ mostCents
-    go true e = rw (nothing-due s (eqb-true _ _ e)) (omega arith)
-    go false e = line-due s l (λ z. true≢false (sym (rw z) ∙ e)) .most
+    by-cases : (b : Bool) → eqb (length s) 0 ≡ b → cents s ≤ mostCents
+    by-cases true e = rw (nothing-due s (eqb-true _ _ e)) (omega arith)
+    by-cases false e = line-due s l (λ z. true≢false (sym (rw z) ∙ e)) .most
 
 -- a bill that 2.2 accepts
 
@@ -69,12 +69,12 @@ module _ (p : Bytes) {n : ℕ} {k : Break} (h : verdict (swissIn V22) p ≡ acce
   -- its currency is CHF or EUR
   either-currency : (is 20 francs ls || is 20 euros ls) ≡ true
   unfolding rules flatten
-  either-currency = go (noText (line 20 ls)) (is 20 francs ls || is 20 euros ls) (found-none _ _ (found-at 34)) (found-none _ _ (found-at 35))
+  either-currency = by-cases (noText (line 20 ls)) (is 20 francs ls || is 20 euros ls) (found-none _ _ (found-at 34)) (found-none _ _ (found-at 35))
     where
-      go : (a b : Bool) → a ≡ false → (not a && not b) ≡ false → b ≡ true
-      go true b x y = absurd (true≢false x)
-      go false true x y = refl
-      go false false x y = absurd (true≢false y)
+      by-cases : (a b : Bool) → a ≡ false → (not a && not b) ≡ false → b ≡ true
+      by-cases true b x y = absurd (true≢false x)
+      by-cases false true x y = refl
+      by-cases false false x y = absurd (true≢false y)
 
   chosen : (a b : Bool) → is 20 francs ls ≡ a → is 20 euros ls ≡ b → (a || b) ≡ true → (line 20 ls ≡ ascii francs) ⊎ (line 20 ls ≡ ascii euros)
   chosen true b x y h = inl (same-is (line 20 ls) (ascii francs) x)
@@ -114,11 +114,11 @@ nothing-added p h currency = rw h
 
 -- no bill adds more than the greatest amount
 pub adds-most : (currency : String) (p : Bytes) → adds currency p ≤ mostCents
-adds-most currency p = go (verdict (swissIn V22) p) refl
+adds-most currency p = by-cases (verdict (swissIn V22) p) refl
   where
-    go : (v : Verdict) → verdict (swissIn V22) p ≡ v → adds currency p ≤ mostCents
-    go (refused r) e = rw (nothing-added p e currency) (omega arith)
-    go (accepted n k) e = rw (adds-its p e currency) (case-at-most mostCents (is 20 currency (linesOf (cut p))) (λ t. line-most _ (accepted-line p e)) (omega arith))
+    by-cases : (v : Verdict) → verdict (swissIn V22) p ≡ v → adds currency p ≤ mostCents
+    by-cases (refused r) e = rw (nothing-added p e currency) (omega arith)
+    by-cases (accepted n k) e = rw (adds-its p e currency) (case-at-most mostCents (is 20 currency (linesOf (cut p))) (λ t. line-most _ (accepted-line p e)) (omega arith))
 
 -- nor is more told of it
 pub outcome-most : {p : Bytes} {differs : Bool} {o : Outcome} → IsOutcome p differs o → (o .francs ≤ mostCents) × (o .euros ≤ mostCents)

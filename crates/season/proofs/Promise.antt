@@ -58,11 +58,11 @@ one-trying {q = q} {r = r} h k = (one-tried q r (h .answer ∙ sym (k .answer)),
 -- what a refusal tells was found; its position is that of a bill; and it changes no number
 
 pub refused-found : {buffer : Bytes} {places : List ℕ} {count : ℕ} {list : List ℕ} {f : Fault} {after : List ℕ} → IsTried buffer places count list (Refused f) after → first (seasonFindings buffer places count (length list)) ≡ some (paperFault f)
-refused-found {buffer} {places} {count} {list} {f} h = go (first (seasonFindings buffer places count (length list))) (h .answer)
+refused-found {buffer} {places} {count} {list} {f} h = by-cases (first (seasonFindings buffer places count (length list))) (h .answer)
   where
-    go : (o : Option Refusal) → paperTried (Refused f) ≡ trialOf (handed buffer places count) o → o ≡ some (paperFault f)
-    go none a = let z : _≡_ {A = ℕ} 0 1 = cc in absurd (omega arith)
-    go (some r) a = cc
+    by-cases : (o : Option Refusal) → paperTried (Refused f) ≡ trialOf (handed buffer places count) o → o ≡ some (paperFault f)
+    by-cases none a = let z : _≡_ {A = ℕ} 0 1 = cc in absurd (omega arith)
+    by-cases (some r) a = cc
 
 pub low-position : {buffer : Bytes} {places : List ℕ} {count : ℕ} {list : List ℕ} {f : Fault} {after : List ℕ} → IsTried buffer places count list (Refused f) after → paperFault f .line < 1000
 low-position {buffer} {places} {count} {list} {f} h = low-found buffer places count _ (low-room (length list) count) (paperFault f) (refused-found h)
@@ -82,16 +82,16 @@ module _ (room : List ℕ) (enough : 102 ≤ length room) where
   unfolding billOf
   lines-read p n k h =
       let reads = accepted-reads (edition-serves V22) p room enough n k h in
-      let is = reads .is in
-      let bill : billOf p ≡ reads .bill = ap billOf (sym (is .writes)) ∙ read-back (swissIn V22) (edition-serves V22 .lawful) (edition-serves V22 .two) (reads .bill) (is .keeps) in
+      let reads-as = reads .is in
+      let bill : billOf p ≡ reads .bill = ap billOf (sym (reads-as .writes)) ∙ read-back (swissIn V22) (edition-serves V22 .lawful) (edition-serves V22 .two) (reads .bill) (reads-as .keeps) in
       reads .cut-out ∙ ap (λ b. b .lines) (sym bill)
 
   cents-read : (currency : String) (p : Bytes) → adds currency p ≡ readCents room currency p
-  cents-read currency p = go (verdict (swissIn V22) p) refl
+  cents-read currency p = by-cases (verdict (swissIn V22) p) refl
     where
-      go : (v : Verdict) → verdict (swissIn V22) p ≡ v → adds currency p ≡ readCents room currency p
-      go (refused r) e = nothing-added p e currency ∙ sym (rw (answer-is-verdict (swissIn V22) p room enough ∙ e))
-      go (accepted n k) e =
+      by-cases : (v : Verdict) → verdict (swissIn V22) p ≡ v → adds currency p ≡ readCents room currency p
+      by-cases (refused r) e = nothing-added p e currency ∙ sym (rw (answer-is-verdict (swissIn V22) p room enough ∙ e))
+      by-cases (accepted n k) e =
           let read = answer-is-verdict (swissIn V22) p room enough ∙ e in
           adds-its p e currency ∙ sym (rw read (ap (centsIn currency) (lines-read p n k read)))
 
@@ -124,11 +124,11 @@ module _ {buffer : Bytes} {places : List ℕ} {count : ℕ} {list : List ℕ} {n
     pub laid : after ≡ over list (differing ps)
 
   pub gives : Gives
-  gives = go seen refl (h .answer) (h .lent)
+  gives = by-cases seen refl (h .answer) (h .lent)
     where
-      go : (o : Option Refusal) → seen ≡ o → tried n c e ≡ trialOf ps o → after ≡ filledBy (differing ps) list o → Gives
-      go none s a l = record { nothing = s; positions-are = cc; francs-are = cc; euros-are = cc; laid = l }
-      go (some r) s a l = let z : _≡_ {A = ℕ} 0 1 = cc in absurd (omega arith)
+      by-cases : (o : Option Refusal) → seen ≡ o → tried n c e ≡ trialOf ps o → after ≡ filledBy (differing ps) list o → Gives
+      by-cases none s a l = record { nothing = s; positions-are = cc; francs-are = cc; euros-are = cc; laid = l }
+      by-cases (some r) s a l = let z : _≡_ {A = ℕ} 0 1 = cc in absurd (omega arith)
 
   front : take n after ≡ differing ps
   front = rw (gives .laid) (take-at (differing ps) (drop (length (differing ps)) list) n (sym (gives .positions-are)))
@@ -152,7 +152,7 @@ module _ {buffer : Bytes} {places : List ℕ} {count : ℕ} {list : List ℕ} {n
 
   -- each is that of a bill
   pub of-a-bill : (m : ℕ) → among (take n after) m ≡ true → (1 ≤ m) × (m ≤ count)
-  of-a-bill m is = let (low, top) = position-of-bill editionsDiffer m 1 ps (rw front at is) in (low, omega (arith, handed-length buffer places count))
+  of-a-bill m reads-as = let (low, top) = position-of-bill editionsDiffer m 1 ps (rw front at reads-as) in (low, omega (arith, handed-length buffer places count))
 
   listed-if-differs : (i : ℕ) → i < count → among (take n after) (1 + i) ≡ editionsDiffer (lineAt buffer places i)
   listed-if-differs i k = rw front (position-there editionsDiffer i 1 ps (omega (arith, handed-length buffer places count)) ∙ ap editionsDiffer (bill-at buffer places count i k))
@@ -194,7 +194,7 @@ pub own-share : (currency : String) (ps : List Bytes) (p : Bytes) (qs : List Byt
 unfolding total
 own-share currency ps p qs = total-apart (adds currency) ps (p ∷ qs)
 
--- so it is with the list: of bills behind others, the positions behind theirs
+-- the list of bills behind others: the positions behind theirs
 pub listed-behind : (ps qs : List Bytes) → differing (ps ++ qs) ≡ differing ps ++ positions editionsDiffer (1 + length ps) qs
 listed-behind = positions-behind editionsDiffer 1
 

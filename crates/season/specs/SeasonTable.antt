@@ -10,7 +10,7 @@ use Rattle.sieve.specs.Lines.{cut, billOf, joined}
 use Rattle.sieve.specs.Characters.{breakWidth, passes, walk, badPlace, characters, lineFeeds}
 use Rattle.sieve.specs.Verdict.{under, findings, first, verdict}
 use Rattle.sieve.specs.Latin.{latin}
-use Rattle.sieve.specs.Mod97.{number, remainder97}
+use Rattle.sieve.specs.Mod97.{numeral, remainder97}
 use Rattle.sieve.specs.Mod10.{carry, checkDigit}
 use Rattle.sieve.specs.Writing.{spans, handed}
 use Rattle.sieve.specs.Cases.{put}
@@ -95,5 +95,5 @@ season =
     ∷ []
 
 pub the-season-table : T (rightRows season)
-unfolding season rightRows placeFindings positions total editionsDiffer adds spans handed cents verdict rules latin billOf cut breakWidth passes walk badPlace characters lineFeeds firstSuch findings first number remainder97 carry checkDigit flatten
+unfolding season rightRows placeFindings positions total editionsDiffer adds spans handed cents verdict rules latin billOf cut breakWidth passes walk badPlace characters lineFeeds firstSuch findings first numeral remainder97 carry checkDigit flatten
 the-season-table = tt

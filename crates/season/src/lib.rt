@@ -1,5 +1,5 @@
 // Last season again: a recorded pile tried under both editions.
-use digits::decimal;
+use mod97::decimal;
 use pile::Piled;
 use pile::gather_bills;
 use places::line;

@@ -9,7 +9,7 @@ use Rattle.sieve.specs.Bytes.{Bytes}
 use Rattle.sieve.specs.Characters.{characters}
 use Rattle.sieve.specs.Rules.{Measure}
 use Rattle.sieve.specs.Verdict.{Refusal}
-use Rattle.sieve.specs.Places.{shownNumbers, placesIn}
+use Rattle.sieve.specs.Places.{walkLines, walkNumbers, placesIn}
 use Rattle.sieve.specs.Writing.{part, handed, mismeasured}
 use Rattle.shown.specs.declared.Wrong.{Wrong}
 use Rattle.shown.specs.declared.Wrong.the-variants.{Nowhere, At}
@@ -18,26 +18,30 @@ use Rattle.shown.specs.declared.Wrong.the-variants.{Nowhere, At}
 abbrev pub counts : List Measure
 counts = characters ∷ []
 
--- a text that has a character for each byte
-abbrev pub Plain : Bytes → Type 0
-Plain s = characters s ≡ length s
+-- the numbers of such a list: three for each line that a walk lists
+abbrev pub shownSize : ℕ
+shownSize = 3 * walkLines
 
-abbrev pub PlainIf : Bool → Bytes → Type 0
-PlainIf plain s = plain ≡ true → Plain s
+-- a text that has a character for each byte
+abbrev pub OnePerByte : Bytes → Type 0
+OnePerByte s = characters s ≡ length s
+
+abbrev pub OnePerByteIf : Bool → Bytes → Type 0
+OnePerByteIf plain s = plain ≡ true → OnePerByte s
 
 -- a line of as many bytes as 16 bits count; if it is plain, each byte is a character
-pub record Counts (l : Bytes) (plain : Bool) : Type 0 where
+pub record Countable (l : Bytes) (plain : Bool) : Type 0 where
   pub few : length l ≤ 65535
   pub one-each : plain ≡ true → characters l ≡ length l
 
 -- where entry i of a list with w numbers for each line lies
-abbrev pub Within : ℕ → Bytes → List ℕ → ℕ → Type 0
-Within w text list i = getD list (w * i) 0 + getD list (w * i + 1) 0 ≤ length text
+abbrev pub Lies : ℕ → Bytes → List ℕ → ℕ → Type 0
+Lies w text list i = getD list (w * i) 0 + getD list (w * i + 1) 0 ≤ length text
 
--- each of 34 lines lies inside a text, by two numbers
-pub record Inside (text : Bytes) (list : List ℕ) : Type 0 where
-  pub size : length list ≡ 68
-  pub inside : (i : ℕ) → i < 34 → Within 2 text list i
+-- each line of a walk's list lies inside a text, by two numbers
+pub record InsideTwo (text : Bytes) (list : List ℕ) : Type 0 where
+  pub size : length list ≡ walkNumbers
+  pub inside : (i : ℕ) → i < walkLines → Lies 2 text list i
 
 -- the numbers of n lines with the characters of each
 unfoldable pub withCounts : Bytes → ℕ → List ℕ → List ℕ
@@ -48,7 +52,7 @@ withCounts text (suc n) list =
 -- each of so many lines lies inside a text, by three numbers
 pub record InsideThree (text : Bytes) (list : List ℕ) (count : ℕ) : Type 0 where
   pub size : 3 * count ≤ length list
-  pub inside : (i : ℕ) → i < count → Within 3 text list i
+  pub inside : (i : ℕ) → i < count → Lies 3 text list i
 
 -- the first of so many lines that is wrongly counted
 unfoldable pub firstWrong : Bytes → List ℕ → ℕ → Option Refusal

@@ -7,12 +7,12 @@ ghost use Prim.Native.Nat.{_*_, _≤_};
 ghost use lib.ListN.{length, drop};
 ghost use Rattle.sieve.specs.Bytes.{over};
 ghost use Rattle.sieve.specs.Characters.{characters};
-ghost use Rattle.sieve.specs.Places.{placesIn};
-ghost use Rattle.shown.specs.Shown.{Plain, PlainIf, Counts, Inside, withCounts, InsideThree, wrongAs, firstWrong};
+ghost use Rattle.sieve.specs.Places.{walkLines, walkNumbers, placesIn};
+ghost use Rattle.shown.specs.Shown.{shownSize, OnePerByte, OnePerByteIf, Countable, InsideTwo, withCounts, InsideThree, wrongAs, firstWrong};
 
 // How many characters a line has; where it is plain, as many as bytes.
 fn counted(line: &[u8], plain: bool) -> u16
-    requires { ⌜ Counts (now line) plain ⌝ }
+    requires { ⌜ Countable (now line) plain ⌝ }
     ensures { λ r. ⌜ r ≡ characters (now (line .entry)) ⌝ }
 {
     if plain {
@@ -28,7 +28,7 @@ const PART: usize = 128;
 // A place from which on a text has a character for each byte: 0 where all of it has. The parts are asked from the end on,
 // up to the last one that has fewer characters.
 fn plain_from(text: &[u8]) -> usize
-    ensures { λ r. ⌜ Plain (drop r (now (text .entry))) ⌝ }
+    ensures { λ r. ⌜ OnePerByte (drop r (now (text .entry))) ⌝ }
 {
     let mut at = text.len();
     while PART <= at {
@@ -46,10 +46,10 @@ fn plain_from(text: &[u8]) -> usize
 
 // Fills the list as `show` does, of a payload that is plain from `tail` on: only lines that begin before are counted.
 fn fill_lines(payload: &[u8], places: &[u16], list: &mut [u16], plain: bool, tail: usize)
-    requires { ⌜ Inside (now payload) (now places) × (102 ≤ length (now list)) ⌝ }
-    requires { ⌜ PlainIf plain (now payload) × Plain (drop tail (now payload)) ⌝ }
+    requires { ⌜ InsideTwo (now payload) (now places) × (shownSize ≤ length (now list)) ⌝ }
+    requires { ⌜ OnePerByteIf plain (now payload) × OnePerByte (drop tail (now payload)) ⌝ }
     ensures { λ _.
-        ⌜ now (list .exit) ≡ over (now (list .entry)) (withCounts (now (payload .entry)) 34 (now (places .entry))) ⌝ }
+        ⌜ now (list .exit) ≡ over (now (list .entry)) (withCounts (now (payload .entry)) walkLines (now (places .entry))) ⌝ }
 {
     let mut i = 0;
     while i < WALK_LINES {
@@ -68,9 +68,9 @@ fn fill_lines(payload: &[u8], places: &[u16], list: &mut [u16], plain: bool, tai
 // Fills a list with three numbers for each of 34 lines: where it lies, by the list that a walk made, and its characters.
 // A plain payload has a call of its own, which counts no line: so the compiler copies many numbers at a time.
 pub fn show(payload: &[u8], places: &[u16], list: &mut [u16])
-    requires { ⌜ Inside (now payload) (now places) × (102 ≤ length (now list)) ⌝ }
+    requires { ⌜ InsideTwo (now payload) (now places) × (shownSize ≤ length (now list)) ⌝ }
     ensures { λ _.
-        ⌜ now (list .exit) ≡ over (now (list .entry)) (withCounts (now (payload .entry)) 34 (now (places .entry))) ⌝ }
+        ⌜ now (list .exit) ≡ over (now (list .entry)) (withCounts (now (payload .entry)) walkLines (now (places .entry))) ⌝ }
 {
     let tail = plain_from(payload);
     if tail == 0 {
@@ -83,8 +83,8 @@ pub fn show(payload: &[u8], places: &[u16], list: &mut [u16])
 // Takes out of such a list where its 34 lines lie, for those that ask for two numbers a line. All are taken, whatever the
 // count: a known number of them is copied many at a time.
 pub fn places_in(list: &[u16], places: &mut [u16])
-    requires { ⌜ (102 ≤ length (now list)) × (length (now places) ≡ 68) ⌝ }
-    ensures { λ _. ⌜ now (places .exit) ≡ placesIn 3 34 (now (list .entry)) ⌝ }
+    requires { ⌜ (shownSize ≤ length (now list)) × (length (now places) ≡ walkNumbers) ⌝ }
+    ensures { λ _. ⌜ now (places .exit) ≡ placesIn 3 walkLines (now (list .entry)) ⌝ }
 {
     let mut i = 0;
     while i < WALK_LINES {

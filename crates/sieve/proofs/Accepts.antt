@@ -46,21 +46,21 @@ lines-back k (l ∷ ls) = ap (λ (t : List Bytes). l ∷ t) (lines-back k ls)
 
 breaks-back : (k : Break) (ls : List Bytes) (j : Break) → List·Memᴰ j (map (λ n. n .break) (nexts k ls)) → j ≡ k
 breaks-back k [] j m = absurd (List·Memᴰ·not-nil m)
-breaks-back k (l ∷ ls) j m = go (List·Memᴰ·cases-cons m) (breaks-back k ls j)
+breaks-back k (l ∷ ls) j m = by-cases (List·Memᴰ·cases-cons m) (breaks-back k ls j)
   where
-    go : (j ≡ k) ⊎ List·Memᴰ j (map (λ n. n .break) (nexts k ls)) → (List·Memᴰ j (map (λ n. n .break) (nexts k ls)) → j ≡ k) → j ≡ k
-    go (inl e) ih = e
-    go (inr m) ih = ih m
+    by-cases : (j ≡ k) ⊎ List·Memᴰ j (map (λ n. n .break) (nexts k ls)) → (List·Memᴰ j (map (λ n. n .break) (nexts k ls)) → j ≡ k) → j ≡ k
+    by-cases (inl e) ih = e
+    by-cases (inr m) ih = ih m
 
 -- lines without CR and LF are read back from what they are written as
 pub clean-read-back : (b : Bill) → 2 ≤ length (b .lines) → Each Clean (b .lines) → billOf (written b) ≡ b
 unfolding written billOf
-clean-read-back b = go (b .lines)
+clean-read-back b = along (b .lines)
   where
-    go : (ls : List Bytes) → 2 ≤ length ls → Each Clean ls → billOf (joined (b .break) ls) ≡ record { lines = ls; break = b .break }
-    go [] two h = absurd (omega arith)
-    go (l ∷ []) two h = absurd (omega arith)
-    go (l ∷ m ∷ ls) two h = rw (cut-joined (b .break) l (m ∷ ls) h, lines-back (b .break) ls)
+    along : (ls : List Bytes) → 2 ≤ length ls → Each Clean ls → billOf (joined (b .break) ls) ≡ record { lines = ls; break = b .break }
+    along [] two h = absurd (omega arith)
+    along (l ∷ []) two h = absurd (omega arith)
+    along (l ∷ m ∷ ls) two h = rw (cut-joined (b .break) l (m ∷ ls) h, lines-back (b .break) ls)
 
 not-empty : (k : Break) (l s : Bytes) → eqb (length (l ++ (breakBytes k ++ s))) 0 ≡ false
 not-empty k (x ∷ l) s = rw eqb·suc-zero

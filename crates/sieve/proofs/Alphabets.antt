@@ -29,11 +29,11 @@ run lo (suc n) = lo ∷ run (suc lo) n
 
 in-run : (lo n x : ℕ) → (among (run lo n) x ≡ true) ↔ ((lo ≤ x) × (x < lo + n))
 in-run lo zero x = (λ h. absurd (false≢true h), λ h. absurd (omega arith))
-in-run lo (suc n) x = go (eqb x lo) refl (in-run (suc lo) n x)
+in-run lo (suc n) x = by-cases (eqb x lo) refl (in-run (suc lo) n x)
   where
-    go : (b : Bool) → eqb x lo ≡ b → (among (run (suc lo) n) x ≡ true) ↔ ((suc lo ≤ x) × (x < suc lo + n)) → ((b || among (run (suc lo) n) x) ≡ true) ↔ ((lo ≤ x) × (x < lo + suc n))
-    go true e more = let s = eqb-true x lo e in (λ h. (omega arith, omega arith), λ h. refl)
-    go false e more = (λ h. let i = more .0 h in (omega arith, omega arith), λ h. more .1 (omega (arith, eqb-false x lo e), omega arith))
+    by-cases : (b : Bool) → eqb x lo ≡ b → (among (run (suc lo) n) x ≡ true) ↔ ((suc lo ≤ x) × (x < suc lo + n)) → ((b || among (run (suc lo) n) x) ≡ true) ↔ ((lo ≤ x) × (x < lo + suc n))
+    by-cases true e more = let s = eqb-true x lo e in (λ h. (omega arith, omega arith), λ h. refl)
+    by-cases false e more = (λ h. let i = more .0 h in (omega arith, omega arith), λ h. more .1 (omega (arith, eqb-false x lo e), omega arith))
 
 -- tests that pass alike are equal
 pub alike : (a b : Bool) → (a ≡ true) ↔ (b ≡ true) → a ≡ b

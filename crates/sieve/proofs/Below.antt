@@ -13,11 +13,11 @@ below f (suc n) = f n && below f n
 
 pub each-of : (f : ℕ → Bool) (n : ℕ) → below f n ≡ true → (i : ℕ) → i < n → f i ≡ true
 each-of f zero h i k = absurd (omega arith)
-each-of f (suc n) h i k = go (eqb i n) refl (and-eq-true-iff (f n) (below f n) .0 h) (each-of f n)
+each-of f (suc n) h i k = by-cases (eqb i n) refl (and-eq-true-iff (f n) (below f n) .0 h) (each-of f n)
   where
-    go : (b : Bool) → eqb i n ≡ b → (f n ≡ true) × (below f n ≡ true) → (below f n ≡ true → (i : ℕ) → i < n → f i ≡ true) → f i ≡ true
-    go true e (here, rest) more = rw (eqb-true i n e) here
-    go false e (here, rest) more = more rest i (omega (arith, eqb-false i n e))
+    by-cases : (b : Bool) → eqb i n ≡ b → (f n ≡ true) × (below f n ≡ true) → (below f n ≡ true → (i : ℕ) → i < n → f i ≡ true) → f i ≡ true
+    by-cases true e (here, rest) more = rw (eqb-true i n e) here
+    by-cases false e (here, rest) more = more rest i (omega (arith, eqb-false i n e))
 
 equal : (a b : Bool) → Bool·beq a b ≡ true → a ≡ b
 equal true true e = refl

@@ -29,9 +29,9 @@ parts L c cs h = and-eq-true-iff (sameVerdict (verdict L (c .payload)) (c .gives
 
 -- a row that is accepted
 pub accepted-row : (L : Layout) (cs : List Case) → T (right L cs) → (i : ℕ) {p : Bytes} {n : ℕ} {k : Break} → getElem? cs i ≡ some (record { payload = p; gives = accepted n k }) → verdict L p ≡ accepted n k
-accepted-row L cs h i {p} {n} {k} e = go cs (holds (right L cs) h) i e
+accepted-row L cs h i {p} {n} {k} e = along cs (holds (right L cs) h) i e
   where
-    go : (cs : List Case) → right L cs ≡ true → (i : ℕ) → getElem? cs i ≡ some (record { payload = p; gives = accepted n k }) → verdict L p ≡ accepted n k
-    go [] h i e = absurd (Option·none-ne-some _ e)
-    go (c ∷ cs) h zero e = let is = Option·some-injective c _ e in same-accepted (verdict L p) n k (rw is at (parts L c cs h .0))
-    go (c ∷ cs) h (suc i) e = go cs (parts L c cs h .1) i e
+    along : (cs : List Case) → right L cs ≡ true → (i : ℕ) → getElem? cs i ≡ some (record { payload = p; gives = accepted n k }) → verdict L p ≡ accepted n k
+    along [] h i e = absurd (Option·none-ne-some _ e)
+    along (c ∷ cs) h zero e = let row-is = Option·some-injective c _ e in same-accepted (verdict L p) n k (rw row-is at (parts L c cs h .0))
+    along (c ∷ cs) h (suc i) e = along cs (parts L c cs h .1) i e

@@ -39,17 +39,17 @@ one false false c h = third h
 
 -- of two bytes the first is past BF, and the second is one of 80 to BF
 two : (x y : ℕ) → inTwo x y ≡ true → (later x ≡ false) × (later y ≡ true)
-two x y h = go (one _ _ _ h)
+two x y h = by-cases (one _ _ _ h)
   where
-    go : One (eqb x 0xC2 && within 0xA0 0xBF y) (within 0xC3 0xC5 x && within 0x80 0xBF y) (eqb x 0xC8 && within 0x98 0x9B y) → (later x ≡ false) × (later y ≡ true)
-    go (first h) =
+    by-cases : One (eqb x 0xC2 && within 0xA0 0xBF y) (within 0xC3 0xC5 x && within 0x80 0xBF y) (eqb x 0xC8 && within 0x98 0x9B y) → (later x ≡ false) × (later y ≡ true)
+    by-cases (first h) =
         let (a, b) = and-eq-true-iff (eqb x 0xC2) _ .0 h in
         let e = eqb-true x 0xC2 a in
         let (c, d) = is-within 0xA0 0xBF y b in (above x (omega arith), inside y (omega arith) (omega arith))
-    go (second h) =
+    by-cases (second h) =
         let (a, b) = and-eq-true-iff (within 0xC3 0xC5 x) _ .0 h in
         let (c, d) = is-within 0xC3 0xC5 x a in (above x (omega arith), b)
-    go (third h) =
+    by-cases (third h) =
         let (a, b) = and-eq-true-iff (eqb x 0xC8) _ .0 h in
         let e = eqb-true x 0xC8 a in
         let (c, d) = is-within 0x98 0x9B y b in (above x (omega arith), inside y (omega arith) (omega arith))

@@ -16,12 +16,12 @@ use Rattle.sieve.proofs.Heads.{Head, lf, crlf, other, head}
 pub glued-cut : (p : Bytes) → glued (cut p) ≡ p
 unfolding cut
 glued-cut [] = refl
-glued-cut (x ∷ s) = go (head x s) (glued-cut s)
+glued-cut (x ∷ s) = by-cases (head x s) (glued-cut s)
   where
-    go : {x : ℕ} {s : Bytes} → Head x s → glued (cut s) ≡ s → glued (cut (x ∷ s)) ≡ x ∷ s
-    go lf h = ap (λ (r : Bytes). 10 ∷ r) h
-    go crlf h = ap (λ (r : Bytes). 13 ∷ r) h
-    go {x} (other e f) h = rw (e, f) (ap (λ (r : Bytes). x ∷ r) h)
+    by-cases : {x : ℕ} {s : Bytes} → Head x s → glued (cut s) ≡ s → glued (cut (x ∷ s)) ≡ x ∷ s
+    by-cases lf h = ap (λ (r : Bytes). 10 ∷ r) h
+    by-cases crlf h = ap (λ (r : Bytes). 13 ∷ r) h
+    by-cases {x} (other e f) h = rw (e, f) (ap (λ (r : Bytes). x ∷ r) h)
 
 -- a byte that is neither LF nor CR is of the line that it stands in
 pub cut-other : {x : ℕ} (s : Bytes) → x ≢ 10 → x ≢ 13 → cut (x ∷ s) ≡ record { first = x ∷ cut s .first; rest = cut s .rest }

@@ -10,7 +10,7 @@ use borrow.Author.Tests.{ltb-true, ltb-false, eqb-false, not-true, lt-ltb, le-lt
 use Rattle.sieve.specs.Bytes.{Bytes, every}
 use Rattle.sieve.specs.Decimal.{decimalIn}
 use Rattle.sieve.specs.Letters.{digit}
-use Rattle.sieve.specs.Mod97.{onto, number}
+use Rattle.sieve.specs.Mod97.{onto, numeral}
 use Rattle.sieve.proofs.Bounds.{is-within}
 
 -- digits, and the number that they are read as
@@ -21,13 +21,13 @@ digit-onto n x h = rw h
 pub digit-byte : (d : ℕ) → d < 10 → digit (48 + d) ≡ true
 digit-byte d h = and-eq-true-iff _ _ .1 (le-leb 48 (48 + d) (omega arith), le-leb (48 + d) 57 (omega arith))
 
-pub number-after : (n : ℕ) (s t : Bytes) → number n (s ++ t) ≡ number (number n s) t
-unfolding number
+pub number-after : (n : ℕ) (s t : Bytes) → numeral n (s ++ t) ≡ numeral (numeral n s) t
+unfolding numeral
 number-after n [] t = refl
 number-after n (x ∷ s) t = number-after (onto n x) s t
 
-pub number-below : (s : Bytes) (n m : ℕ) → every digit s ≡ true → n < 10 ^ m → number n s < 10 ^ (m + length s)
-unfolding number
+pub number-below : (s : Bytes) (n m : ℕ) → every digit s ≡ true → n < 10 ^ m → numeral n s < 10 ^ (m + length s)
+unfolding numeral
 number-below [] n m h b = let e : m + 0 ≡ m = omega arith in rw e b
 number-below (x ∷ s) n m h b =
     let (hx, hs) = and-eq-true-iff _ _ .0 h in
@@ -49,8 +49,8 @@ many : (k n : ℕ) (s : Bytes) → 10 ≤ n → digits (suc k) n s ≡ digits k 
 unfolding digits decimalIn
 many k n s h = rw (le-ltb n 10 h) (append-assoc (decimalIn k (n / 10)) ((48 + n % 10) ∷ []) s)
 
-digits-of-number : (t s : Bytes) (k n : ℕ) → every digit t ≡ true → 1 ≤ n → digits (length t + k) (number n t) s ≡ digits k n (t ++ s)
-unfolding number
+digits-of-number : (t s : Bytes) (k n : ℕ) → every digit t ≡ true → 1 ≤ n → digits (length t + k) (numeral n t) s ≡ digits k n (t ++ s)
+unfolding numeral
 digits-of-number [] s k n h b = let e : 0 + k ≡ k = omega arith in rw e
 digits-of-number (x ∷ t) s k n h b =
     let (hx, ht) = and-eq-true-iff _ _ .0 h in
@@ -65,8 +65,8 @@ digits-of-number (x ∷ t) s k n h b =
 abbrev pub unled : Bytes → Bool
 unled w = eqb (length w) 1 || not (eqb (getD w 0 0) 48)
 
-pub digits-of-whole : (w : Bytes) (k : ℕ) → 1 ≤ length w → length w ≤ k → every digit w ≡ true → unled w ≡ true → digits k (number 0 w) [] ≡ w
-unfolding number
+pub digits-of-whole : (w : Bytes) (k : ℕ) → 1 ≤ length w → length w ≤ k → every digit w ≡ true → unled w ≡ true → digits k (numeral 0 w) [] ≡ w
+unfolding numeral
 digits-of-whole [] k a b h l = absurd (omega arith)
 digits-of-whole (x ∷ []) k a b h l =
     let (hx, _) = and-eq-true-iff _ _ .0 h in
@@ -91,7 +91,7 @@ digits-of-whole (x ∷ y ∷ w) k a b h l =
 
 -- r is what stands for n, in digits, in front of s
 pub record Written (k n : ℕ) (s r : Bytes) : Type 0 where
-  pub value : number 0 r ≡ number n s
+  pub value : numeral 0 r ≡ numeral n s
   pub digital : every digit s ≡ true → every digit r ≡ true
   pub least : length s < length r
   pub most : length r ≤ k + length s
@@ -99,7 +99,7 @@ pub record Written (k n : ℕ) (s r : Bytes) : Type 0 where
 
 module _ (k n : ℕ) (s : Bytes) where
   one-digit : n < 10 → Written (suc k) n s ((48 + n) ∷ s)
-  unfolding number
+  unfolding numeral
   one-digit h =
       let e : 10 * 0 + (48 + n - 48) ≡ n = omega arith in
       record {
@@ -111,7 +111,7 @@ module _ (k n : ℕ) (s : Bytes) where
       }
 
   more-digits : (r : Bytes) → 10 ≤ n → Written k (n / 10) ((48 + n % 10) ∷ s) r → Written (suc k) n s r
-  unfolding number
+  unfolding numeral
   more-digits r h x =
       let d = 48 + n % 10 in
       let is-digit = digit-byte (n % 10) (omega arith) in
@@ -126,22 +126,22 @@ module _ (k n : ℕ) (s : Bytes) where
 
 pub digits-written : (k n : ℕ) (s : Bytes) → n < 10 ^ suc k → Written (suc k) n s (digits (suc k) n s)
 digits-written zero n s h = rw (few 0 n s h) (one-digit 0 n s h)
-digits-written (suc k) n s h = go (ltb n 10) refl (digits-written k (n / 10) ((48 + n % 10) ∷ s) (omega arith))
+digits-written (suc k) n s h = by-cases (ltb n 10) refl (digits-written k (n / 10) ((48 + n % 10) ∷ s) (omega arith))
   where
-    go : (b : Bool) → ltb n 10 ≡ b → Written (suc k) (n / 10) ((48 + n % 10) ∷ s) (digits (suc k) (n / 10) ((48 + n % 10) ∷ s)) → Written (suc (suc k)) n s (digits (suc (suc k)) n s)
-    go true e x = rw (few (suc k) n s (ltb-true n 10 e)) (one-digit (suc k) n s (ltb-true n 10 e))
-    go false e x = rw (many (suc k) n s (ltb-false n 10 e)) (more-digits (suc k) n s _ (ltb-false n 10 e) x)
+    by-cases : (b : Bool) → ltb n 10 ≡ b → Written (suc k) (n / 10) ((48 + n % 10) ∷ s) (digits (suc k) (n / 10) ((48 + n % 10) ∷ s)) → Written (suc (suc k)) n s (digits (suc (suc k)) n s)
+    by-cases true e x = rw (few (suc k) n s (ltb-true n 10 e)) (one-digit (suc k) n s (ltb-true n 10 e))
+    by-cases false e x = rw (many (suc k) n s (ltb-false n 10 e)) (more-digits (suc k) n s _ (ltb-false n 10 e) x)
 
 -- in no more digits than the power of ten has that it is below
 pub no-more-digits : (k j n : ℕ) → n < 10 ^ suc j → length (decimalIn k n) ≤ suc j
 unfolding decimalIn
 no-more-digits zero j n h = omega arith
 no-more-digits (suc k) zero n h = rw (lt-ltb n 10 h) (lit≤ tt)
-no-more-digits (suc k) (suc j) n h = go (ltb n 10) (no-more-digits k j (n / 10) (omega arith))
+no-more-digits (suc k) (suc j) n h = by-cases (ltb n 10) (no-more-digits k j (n / 10) (omega arith))
   where
-    go : (b : Bool) → length (decimalIn k (n / 10)) ≤ suc j → length (cond b ((48 + n) ∷ []) (decimalIn k (n / 10) ++ ((48 + n % 10) ∷ []))) ≤ suc (suc j)
-    go true e = omega arith
-    go false e = omega (arith, length-append (decimalIn k (n / 10)) ((48 + n % 10) ∷ []))
+    by-cases : (b : Bool) → length (decimalIn k (n / 10)) ≤ suc j → length (cond b ((48 + n) ∷ []) (decimalIn k (n / 10) ++ ((48 + n % 10) ∷ []))) ≤ suc (suc j)
+    by-cases true e = omega arith
+    by-cases false e = omega (arith, length-append (decimalIn k (n / 10)) ((48 + n % 10) ∷ []))
 
 -- and no zero stands in front
 pub written-unled : (n : ℕ) → n < 10 ^ 9 → unled (digits 9 n []) ≡ true

@@ -54,12 +54,12 @@ refuses-same L f g F G p q r h k =
 
 -- demand 3 leaves one verdict for every payload
 pub one-verdict : (L : Layout) (f g : Bytes → Verdict) → DemandThree L f → DemandThree L g → (p : Bytes) → f p ≡ g p
-one-verdict L f g F G p = go (f p) (g p) refl refl
+one-verdict L f g F G p = by-cases (f p) (g p) refl refl
   where
-    go : (v w : Verdict) → f p ≡ v → g p ≡ w → f p ≡ g p
-    go (accepted n k) w e d = e ∙ sym (accepts-same L f g (F .accepts) (G .accepts) p n k e)
-    go (refused q) (accepted n k) e d = accepts-same L g f (G .accepts) (F .accepts) p n k d ∙ sym d
-    go (refused q) (refused r) e d = e ∙ ap refused (refuses-same L f g (F .refuses) (G .refuses) p q r e d) ∙ sym d
+    by-cases : (v w : Verdict) → f p ≡ v → g p ≡ w → f p ≡ g p
+    by-cases (accepted n k) w e d = e ∙ sym (accepts-same L f g (F .accepts) (G .accepts) p n k e)
+    by-cases (refused q) (accepted n k) e d = accepts-same L g f (G .accepts) (F .accepts) p n k d ∙ sym d
+    by-cases (refused q) (refused r) e d = e ∙ ap refused (refuses-same L f g (F .refuses) (G .refuses) p q r e d) ∙ sym d
 
 -- a function that gives the verdict of a layout meets what the verdict meets
 pub carried : (L : Layout) (f : Bytes → Verdict) → ((p : Bytes) → f p ≡ verdict L p) → DemandThree L (verdict L) → DemandThree L f

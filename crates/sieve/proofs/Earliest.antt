@@ -28,12 +28,12 @@ no-length [] h = refl
 no-length (x ∷ p) h = absurd (suc-ne-zero _ h)
 
 outside : (lo hi n : ℕ) → not (within lo hi n) ≡ true → (n < lo) ⊎ (hi < n)
-outside lo hi n = go (leb lo n) (leb n hi) refl refl
+outside lo hi n = by-cases (leb lo n) (leb n hi) refl refl
   where
-    go : (a b : Bool) → leb lo n ≡ a → leb n hi ≡ b → not (a && b) ≡ true → (n < lo) ⊎ (hi < n)
-    go false b e f h = inl (leb-false lo n e)
-    go true false e f h = inr (leb-false n hi f)
-    go true true e f h = absurd (false≢true h)
+    by-cases : (a b : Bool) → leb lo n ≡ a → leb n hi ≡ b → not (a && b) ≡ true → (n < lo) ⊎ (hi < n)
+    by-cases false b e f h = inl (leb-false lo n e)
+    by-cases true false e f h = inr (leb-false n hi f)
+    by-cases true true e f h = absurd (false≢true h)
 
 run-in-front : (a s p : Bytes) (n : ℕ) → a ++ s ≡ p → length a ≡ n → take n p ≡ a
 run-in-front a s p n e h = ap (take n) (sym e) ∙ take-at a s n h

@@ -12,7 +12,7 @@ use Rattle.sieve.specs.declared.Break.{Break}
 use Rattle.sieve.specs.Bytes.{Bytes, firstSuch}
 use Rattle.sieve.specs.Lines.{Bill, cut, linesOf, breaksOf, billOf}
 use Rattle.sieve.specs.Rules.{Rule, Layout}
-use Rattle.sieve.specs.Verdict.{Refusal, accepted, refused, found, noBytes, tooManyBytes, badCharacter, mixedBreaks, lineCount, aboutLines, findings, first, settled, verdict}
+use Rattle.sieve.specs.Verdict.{Refusal, accepted, refused, found, noBytes, tooManyBytes, badCharacter, mixedBreaks, lineCount, aboutLines, findings, first, decided, verdict}
 
 -- a test
 
@@ -52,15 +52,15 @@ none-first (some r) os e h = absurd (Option·none-ne-some r (sym e))
 
 -- a verdict accepts where nothing is found, and every finding is then none
 
-pub settled-accepts : {n : ℕ} {k : Break} (b : Bill) (o : Option Refusal) → settled b o ≡ accepted n k → (o ≡ none) × (length (b .lines) ≡ n) × (b .break ≡ k)
+pub settled-accepts : {n : ℕ} {k : Break} (b : Bill) (o : Option Refusal) → decided b o ≡ accepted n k → (o ≡ none) × (length (b .lines) ≡ n) × (b .break ≡ k)
 settled-accepts b none h = (refl, cc, cc)
 settled-accepts b (some r) h = let z : _≡_ {A = ℕ} 0 1 = cc in absurd (omega arith)
 
-pub settled-refuses : (b : Bill) (o : Option Refusal) (r : Refusal) → settled b o ≡ refused r → o ≡ some r
+pub settled-refuses : (b : Bill) (o : Option Refusal) (r : Refusal) → decided b o ≡ refused r → o ≡ some r
 settled-refuses b none r h = let z : _≡_ {A = ℕ} 0 1 = cc in absurd (omega arith)
 settled-refuses b (some q) r h = cc
 
-pub verdict-is : (L : Layout) (p : Bytes) → verdict L p ≡ settled (billOf p) (first (findings L p))
+pub verdict-is : (L : Layout) (p : Bytes) → verdict L p ≡ decided (billOf p) (first (findings L p))
 unfolding verdict
 verdict-is L p = refl
 
@@ -112,11 +112,11 @@ Unbroken rs ls = (r : Rule) → List·Memᴰ r rs → r .broken ls ≡ false
 
 pub all-unbroken : (rs : List Rule) (ls : List Bytes) → first (map (aboutLines ls) rs) ≡ none → Unbroken rs ls
 all-unbroken [] ls h r m = absurd (List·Memᴰ·not-nil m)
-all-unbroken (q ∷ rs) ls h r m = go (all-unbroken rs ls (none-further (map (aboutLines ls) (q ∷ rs)) 1 h)) (List·Memᴰ·cases-cons m)
+all-unbroken (q ∷ rs) ls h r m = by-cases (all-unbroken rs ls (none-further (map (aboutLines ls) (q ∷ rs)) 1 h)) (List·Memᴰ·cases-cons m)
   where
-    go : Unbroken rs ls → (r ≡ q) ⊎ List·Memᴰ r rs → r .broken ls ≡ false
-    go ih (inl s) = rw s (found-none (q .broken ls) _ (each-none (map (aboutLines ls) (q ∷ rs)) h 0))
-    go ih (inr i) = ih r i
+    by-cases : Unbroken rs ls → (r ≡ q) ⊎ List·Memᴰ r rs → r .broken ls ≡ false
+    by-cases ih (inl s) = rw s (found-none (q .broken ls) _ (each-none (map (aboutLines ls) (q ∷ rs)) h 0))
+    by-cases ih (inr i) = ih r i
 
 pub none-broken : (rs : List Rule) (ls : List Bytes) → Unbroken rs ls → first (map (aboutLines ls) rs) ≡ none
 unfolding first
@@ -137,11 +137,11 @@ pub record SuchAt {A : Type 0} (f : A → Bool) (i : ℕ) (xs : List A) (n : ℕ
 pub such-at : {A : Type 0} (f : A → Bool) (i : ℕ) (xs : List A) (n : ℕ) → firstSuch f i xs ≡ some n → SuchAt f i xs n
 unfolding firstSuch
 such-at f i [] n h = absurd (Option·none-ne-some n h)
-such-at {A} f i (x ∷ xs) n h = go (f x) refl (such-at f (suc i) xs n)
+such-at {A} f i (x ∷ xs) n h = by-cases (f x) refl (such-at f (suc i) xs n)
   where
-    go : (b : Bool) → f x ≡ b → (firstSuch f (suc i) xs ≡ some n → SuchAt f (suc i) xs n) → SuchAt f i (x ∷ xs) n
-    go true e ih = let g : _≡_ {A = Option ℕ} (some i) (some n) = rw (e, firstSuch) at h in record { before = []; such = x; after = xs; whole = refl; none-before = λ y m. absurd (List·Memᴰ·not-nil m); passes = e; place = add-zero i ∙ cc }
-    go false e ih =
+    by-cases : (b : Bool) → f x ≡ b → (firstSuch f (suc i) xs ≡ some n → SuchAt f (suc i) xs n) → SuchAt f i (x ∷ xs) n
+    by-cases true e ih = let g : _≡_ {A = Option ℕ} (some i) (some n) = rw (e, firstSuch) at h in record { before = []; such = x; after = xs; whole = refl; none-before = λ y m. absurd (List·Memᴰ·not-nil m); passes = e; place = add-zero i ∙ cc }
+    by-cases false e ih =
         let r = ih (rw (e, firstSuch) at h) in
         record {
           before = x ∷ r .before;
@@ -176,9 +176,9 @@ none-such f i (x ∷ xs) h = rw (h x (List·Memᴰ·head refl), firstSuch) (none
 pub such-none : {A : Type 0} (f : A → Bool) (i : ℕ) (xs : List A) → firstSuch f i xs ≡ none → (x : A) → List·Memᴰ x xs → f x ≡ false
 unfolding firstSuch
 such-none f i [] h x m = absurd (List·Memᴰ·not-nil m)
-such-none f i (y ∷ xs) h x m = go (f y) refl (such-none f (suc i) xs) (List·Memᴰ·cases-cons m)
+such-none f i (y ∷ xs) h x m = by-cases (f y) refl (such-none f (suc i) xs) (List·Memᴰ·cases-cons m)
   where
-    go : (b : Bool) → f y ≡ b → (firstSuch f (suc i) xs ≡ none → (x : _) → List·Memᴰ x xs → f x ≡ false) → (x ≡ y) ⊎ List·Memᴰ x xs → f x ≡ false
-    go true e ih m = absurd (Option·none-ne-some i (sym (rw (e, firstSuch) at h)))
-    go false e ih (inl s) = rw s e
-    go false e ih (inr m) = ih (rw (e, firstSuch) at h) x m
+    by-cases : (b : Bool) → f y ≡ b → (firstSuch f (suc i) xs ≡ none → (x : _) → List·Memᴰ x xs → f x ≡ false) → (x ≡ y) ⊎ List·Memᴰ x xs → f x ≡ false
+    by-cases true e ih m = absurd (Option·none-ne-some i (sym (rw (e, firstSuch) at h)))
+    by-cases false e ih (inl s) = rw s e
+    by-cases false e ih (inr m) = ih (rw (e, firstSuch) at h) x m

@@ -15,14 +15,14 @@ pub data Head : ℕ → Bytes → Type 0 where
   other : {x : ℕ} {s : Bytes} → eqb x 10 ≡ false → (eqb x 13 && beginsLf s) ≡ false → Head x s
 
 pub head : (x : ℕ) (s : Bytes) → Head x s
-head x s = go (eqb x 10) (eqb x 13 && beginsLf s) refl refl
+head x s = by-cases (eqb x 10) (eqb x 13 && beginsLf s) refl refl
   where
     cr : (s : Bytes) (a : Bool) → eqb x 13 ≡ a → (a && beginsLf s) ≡ true → Head x s
     cr s false e h = absurd (false≢true h)
     cr [] true e h = absurd (false≢true h)
     cr (y ∷ s) true e h = subst₂ (λ (a b : ℕ). Head a (b ∷ s)) (sym (eqb-true x 13 e)) (sym (eqb-true y 10 h)) crlf
 
-    go : (a b : Bool) → eqb x 10 ≡ a → (eqb x 13 && beginsLf s) ≡ b → Head x s
-    go true b e h = subst (λ (a : ℕ). Head a s) (sym (eqb-true x 10 e)) lf
-    go false true e h = cr s (eqb x 13) refl h
-    go false false e h = other e h
+    by-cases : (a b : Bool) → eqb x 10 ≡ a → (eqb x 13 && beginsLf s) ≡ b → Head x s
+    by-cases true b e h = subst (λ (a : ℕ). Head a s) (sym (eqb-true x 10 e)) lf
+    by-cases false true e h = cr s (eqb x 13) refl h
+    by-cases false false e h = other e h

@@ -8,14 +8,14 @@ use mathlib.Core.Path.{_≡_, refl, sym, _∙_, ap}
 use lib.ListN.{length, getD, length-append}
 use Rattle.sieve.specs.Bytes.{Bytes}
 use Rattle.sieve.specs.Characters.{Text, none-left, character, count}
-use Rattle.sieve.specs.Lawful.{Plain, no-more, one-more, Lawful}
+use Rattle.sieve.specs.Lawful.{Unbroken, no-more, one-more, Lawful}
 use Rattle.sieve.specs.Iso8859.{isoByte, iso8859}
 
 -- neither LF nor CR is one, and none begins at the end
-plain : (s : Bytes) (b : Bool) → isoByte (getD s 0 0) ≡ b → Plain (cond b 1 0) s
-plain s false h = no-more
-plain [] true h = absurd (false≢true h)
-plain (x ∷ s) true h = one-more (λ e. true≢false (sym h ∙ ap isoByte e)) (λ e. true≢false (sym h ∙ ap isoByte e)) no-more
+unbroken : (s : Bytes) (b : Bool) → isoByte (getD s 0 0) ≡ b → Unbroken (cond b 1 0) s
+unbroken s false h = no-more
+unbroken [] true h = absurd (false≢true h)
+unbroken (x ∷ s) true h = one-more (λ e. true≢false (sym h ∙ ap isoByte e)) (λ e. true≢false (sym h ∙ ap isoByte e)) no-more
 
 own : (c s t : Bytes) (n : ℕ) → length c ≡ suc n → iso8859 (c ++ s) ≡ suc n → iso8859 (c ++ t) ≡ suc n
 unfolding iso8859
@@ -24,7 +24,7 @@ own (x ∷ c) s t n e h = h
 
 pub lawful : Lawful iso8859
 unfolding iso8859
-lawful = record { plain = λ s. plain s (isoByte (getD s 0 0)) refl; own = own }
+lawful = record { unbroken = λ s. unbroken s (isoByte (getD s 0 0)) refl; own = own }
 
 one-byte : (b : Bool) (n : ℕ) → cond b 1 0 ≡ suc n → n ≡ 0
 one-byte true n h = omega arith

@@ -9,25 +9,25 @@ use mathlib.Core.Path.{_≡_, refl, sym, _∙_, ap}
 use borrow.Author.Tests.{lt-leb, ne-eqb}
 use lib.ListN.{length, getD}
 use Rattle.sieve.specs.Bytes.{Bytes}
-use Rattle.sieve.specs.Lawful.{Plain, no-more, one-more, Lawful}
+use Rattle.sieve.specs.Lawful.{Unbroken, no-more, one-more, Lawful}
 use Rattle.sieve.specs.Latin.{inOne, inTwo, inThree, latin}
 
 -- a test that one byte passes and another does not tells them apart
 differs : (f : ℕ → Bool) {x y : ℕ} → f x ≡ true → f y ≡ false → x ≢ y
 differs f h g e = true≢false (sym h ∙ ap f e ∙ g)
 
-one : (s : Bytes) → inOne (getD s 0 0) ≡ true → Plain 1 s
+one : (s : Bytes) → inOne (getD s 0 0) ≡ true → Unbroken 1 s
 one [] h = absurd (false≢true h)
 one (x ∷ s) h = one-more (differs inOne h refl) (differs inOne h refl) no-more
 
-two : (s : Bytes) → inTwo (getD s 0 0) (getD s 1 0) ≡ true → Plain 2 s
+two : (s : Bytes) → inTwo (getD s 0 0) (getD s 1 0) ≡ true → Unbroken 2 s
 two [] h = absurd (false≢true h)
 two (x ∷ []) h = absurd (false≢true (simp and-false at h))
 two (x ∷ y ∷ s) h =
     one-more (differs (λ x. inTwo x y) h refl) (differs (λ x. inTwo x y) h refl)
     (one-more (differs (inTwo x) h (simp and-false)) (differs (inTwo x) h (simp and-false)) no-more)
 
-three : (s : Bytes) → inThree (getD s 0 0) (getD s 1 0) (getD s 2 0) ≡ true → Plain 3 s
+three : (s : Bytes) → inThree (getD s 0 0) (getD s 1 0) (getD s 2 0) ≡ true → Unbroken 3 s
 three [] h = absurd (false≢true h)
 three (x ∷ []) h = absurd (false≢true (simp and-false at h))
 three (x ∷ y ∷ []) h = absurd (false≢true (simp and-false at h))
@@ -36,11 +36,11 @@ three (x ∷ y ∷ z ∷ s) h =
     (one-more (differs (λ y. inThree x y z) h (simp and-false)) (differs (λ y. inThree x y z) h (simp and-false))
     (one-more (differs (inThree x y) h (simp and-false)) (differs (inThree x y) h (simp and-false)) no-more))
 
-plain : (a b c : Bool) (s : Bytes) → (a ≡ true → Plain 1 s) → (b ≡ true → Plain 2 s) → (c ≡ true → Plain 3 s) → Plain (cond a 1 (cond b 2 (cond c 3 0))) s
-plain true b c s f g h = f refl
-plain false true c s f g h = g refl
-plain false false true s f g h = h refl
-plain false false false s f g h = no-more
+unbroken : (a b c : Bool) (s : Bytes) → (a ≡ true → Unbroken 1 s) → (b ≡ true → Unbroken 2 s) → (c ≡ true → Unbroken 3 s) → Unbroken (cond a 1 (cond b 2 (cond c 3 0))) s
+unbroken true b c s f g h = f refl
+unbroken false true c s f g h = g refl
+unbroken false false true s f g h = h refl
+unbroken false false false s f g h = no-more
 
 -- a width of 1 is told by the first byte, and a width of 2 by the first two
 pub one-told : (a b c : Bool) → _≡_ {A = ℕ} (cond a 1 (cond b 2 (cond c 3 0))) 1 → a ≡ true
@@ -64,7 +64,7 @@ own (x ∷ y ∷ z ∷ c) s t n e h = h
 
 pub lawful : Lawful latin
 unfolding latin
-lawful = record { plain = λ s. plain _ _ _ s (one s) (two s) (three s); own = own }
+lawful = record { unbroken = λ s. unbroken _ _ _ s (one s) (two s) (three s); own = own }
 
 -- a character that begins below C2 has one byte
 pub low : (s : Bytes) → getD s 0 0 < 0xC2 → latin s ≡ cond (inOne (getD s 0 0)) 1 0

@@ -10,7 +10,7 @@ use Rattle.sieve.specs.declared.Break.the-variants.{Lf, CrLf}
 use Rattle.sieve.specs.Bytes.{Bytes}
 use Rattle.sieve.specs.Lines.{Bill, billOf, written}
 use Rattle.sieve.specs.Rules.{Layout}
-use Rattle.sieve.specs.Verdict.{Refusal, under, Verdict, accepted, refused, findings, first, settled, verdict}
+use Rattle.sieve.specs.Verdict.{Refusal, under, Verdict, accepted, refused, findings, first, decided, verdict}
 use Rattle.sieve.specs.Breaks.{no-bytes}
 use Rattle.sieve.specs.Demand.{AcceptsExactly, RefusesEarliest, DemandThree}
 use Rattle.sieve.proofs.Findings.{settled-accepts, verdict-is}
@@ -22,7 +22,7 @@ last [] = none
 last (o ∷ os) = elim (last os) [ some r ↦ some r | none ↦ o ]
 
 abbrev pub last-broken : Layout → Bytes → Verdict
-last-broken L p = settled (billOf p) (last (findings L p))
+last-broken L p = decided (billOf p) (last (findings L p))
 
 -- always the same line count, or the same break
 abbrev pub sayingCount : ℕ → Verdict → Verdict
@@ -67,12 +67,12 @@ same-break h = cc
 last-none : (os : List (Option Refusal)) → last os ≡ none → first os ≡ none
 unfolding first
 last-none [] h = refl
-last-none (o ∷ os) h = go (last os) o refl (last-none os) h
+last-none (o ∷ os) h = by-cases (last os) o refl (last-none os) h
   where
-    go : (l o : Option Refusal) → last os ≡ l → (last os ≡ none → first os ≡ none) → _≡_ {A = Option Refusal} (elim l [ some r ↦ some r | none ↦ o ]) none → first (o ∷ os) ≡ none
-    go none none e ih h = ih e
-    go none (some r) e ih h = absurd (Option·none-ne-some r (sym h))
-    go (some r) o e ih h = absurd (Option·none-ne-some r (sym h))
+    by-cases : (l o : Option Refusal) → last os ≡ l → (last os ≡ none → first os ≡ none) → _≡_ {A = Option Refusal} (elim l [ some r ↦ some r | none ↦ o ]) none → first (o ∷ os) ≡ none
+    by-cases none none e ih h = ih e
+    by-cases none (some r) e ih h = absurd (Option·none-ne-some r (sym h))
+    by-cases (some r) o e ih h = absurd (Option·none-ne-some r (sym h))
 
 none-last : (os : List (Option Refusal)) → first os ≡ none → last os ≡ none
 unfolding first
@@ -80,7 +80,7 @@ none-last [] h = refl
 none-last (none ∷ os) h = rw (none-last os h, last)
 none-last (some r ∷ os) h = absurd (Option·none-ne-some r (sym h))
 
-settled-alike : {n : ℕ} {k : Break} (b : Bill) (o q : Option Refusal) → (o ≡ none → q ≡ none) → settled b o ≡ accepted n k → settled b q ≡ accepted n k
+settled-alike : {n : ℕ} {k : Break} (b : Bill) (o q : Option Refusal) → (o ≡ none → q ≡ none) → decided b o ≡ accepted n k → decided b q ≡ accepted n k
 settled-alike b o q f h = let e = settled-accepts b o h .0 in rw (f e) (rw e at h)
 
 module _ (L : Layout) (D : DemandThree L (verdict L)) (T : Telling L) where

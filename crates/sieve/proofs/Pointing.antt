@@ -33,11 +33,11 @@ use Rattle.sieve.proofs.Widths.{passes-character, passes-other}
 -- the reader's
 
 neither : (w : Width) (s : Bytes) → passes w s ≡ 0 → (w s ≡ 0) × (breakWidth s ≡ 0)
-neither w s h = go (w s) refl
+neither w s h = along (w s) refl
   where
-    go : (n : ℕ) → w s ≡ n → (w s ≡ 0) × (breakWidth s ≡ 0)
-    go zero e = (e, sym (passes-other w s e) ∙ h)
-    go (suc n) e = absurd (suc-ne-zero n (sym (passes-character w s n e) ∙ h))
+    along : (n : ℕ) → w s ≡ n → (w s ≡ 0) × (breakWidth s ≡ 0)
+    along zero e = (e, sym (passes-other w s e) ∙ h)
+    along (suc n) e = absurd (suc-ne-zero n (sym (passes-character w s n e) ∙ h))
 
 after-a-run : (w : Width) (a s : Bytes) → Passed w s a → s ≢ [] → passes w s ≡ 0 → BeginsNeither w (a ++ s) (1 + lineFeeds a) (length a)
 after-a-run w a s q m b =
@@ -145,18 +145,18 @@ held-further k l m ls front i r clean h =
 holds : (k : Break) (ls : List Bytes) (front : Bytes) (i n : ℕ) (r : Refusal) → length front ≡ n → strayBreak i (placed n k ls) ≡ some r → Holds k front ls i r
 unfolding strayBreak placed
 holds k [] front i n r size h = absurd (Option·none-ne-some r h)
-holds k (l ∷ []) front i n r size h = go (firstSuch ofBreak n l) refl
+holds k (l ∷ []) front i n r size h = by-cases (firstSuch ofBreak n l) refl
   where
-    go : (o : Option ℕ) → firstSuch ofBreak n l ≡ o → Holds k front (l ∷ []) i r
-    go (some at) e = rw (← Option·some-injective _ _ (rw (e, strayBreak) at h)) (held-here k l [] front i n at size e)
-    go none e = absurd (Option·none-ne-some r (rw (e, strayBreak) at h))
+    by-cases : (o : Option ℕ) → firstSuch ofBreak n l ≡ o → Holds k front (l ∷ []) i r
+    by-cases (some at) e = rw (← Option·some-injective _ _ (rw (e, strayBreak) at h)) (held-here k l [] front i n at size e)
+    by-cases none e = absurd (Option·none-ne-some r (rw (e, strayBreak) at h))
 holds k (l ∷ m ∷ ls) front i n r size h =
-    go (firstSuch ofBreak n l) refl
+    by-cases (firstSuch ofBreak n l) refl
     (holds k (m ∷ ls) (front ++ (l ++ breakBytes k)) (suc i) (n + length l + length (breakBytes k)) r (omega (arith, size, length-append front (l ++ breakBytes k), length-append l (breakBytes k))))
   where
-    go : (o : Option ℕ) → firstSuch ofBreak n l ≡ o → (strayBreak (suc i) (placed (n + length l + length (breakBytes k)) k (m ∷ ls)) ≡ some r → Holds k (front ++ (l ++ breakBytes k)) (m ∷ ls) (suc i) r) → Holds k front (l ∷ m ∷ ls) i r
-    go (some at) e ih = rw (← Option·some-injective _ _ (rw (e, strayBreak) at h)) (held-here k l (m ∷ ls) front i n at size e)
-    go none e ih = held-further k l m ls front i r (clean-bytes l (such-none ofBreak n l e)) (ih (rw (e, strayBreak) at h))
+    by-cases : (o : Option ℕ) → firstSuch ofBreak n l ≡ o → (strayBreak (suc i) (placed (n + length l + length (breakBytes k)) k (m ∷ ls)) ≡ some r → Holds k (front ++ (l ++ breakBytes k)) (m ∷ ls) (suc i) r) → Holds k front (l ∷ m ∷ ls) i r
+    by-cases (some at) e ih = rw (← Option·some-injective _ _ (rw (e, strayBreak) at h)) (held-here k l (m ∷ ls) front i n at size e)
+    by-cases none e ih = held-further k l m ls front i r (clean-bytes l (such-none ofBreak n l e)) (ih (rw (e, strayBreak) at h))
 
 pub stray-points : (k : Break) (ls : List Bytes) (i at : ℕ) → strayBreak 1 (placed 0 k ls) ≡ some (underAt 3 i at) → HoldsBreak k ls i at
 stray-points k ls i at h =
@@ -199,11 +199,11 @@ module _ (L : Layout) (text : Bytes) (list : List ℕ) (count : ℕ) (k : Break)
   outside-points (some j) h = absurd (Option·none-ne-some at (ap (λ (r : Refusal). r .place) (Option·some-injective _ _ h)))
 
   reader-points : first (findings L bytes) ≡ some (underAt 3 i at) → ((q : Refusal) → strayBreak 1 (placed 0 k ls) ≡ some q → Points) → Points
-  reader-points h before = go (strayBreak 1 (placed 0 k ls)) refl
+  reader-points h before = by-cases (strayBreak 1 (placed 0 k ls)) refl
     where
-      go : (o : Option Refusal) → strayBreak 1 (placed 0 k ls) ≡ o → Points
-      go (some q) e = before q e
-      go none e = inr (e, verdict-points L bytes i at (verdict-is L bytes ∙ rw h))
+      by-cases : (o : Option Refusal) → strayBreak 1 (placed 0 k ls) ≡ o → Points
+      by-cases (some q) e = before q e
+      by-cases none e = inr (e, verdict-points L bytes i at (verdict-is L bytes ∙ rw h))
 
   found-points : (j : ℕ) → getD (writeFindings L text list count k (length dest)) j none ≡ some (underAt 3 i at)
       → ((m : ℕ) (q : Refusal) → getD (writeFindings L text list count k (length dest)) m none ≡ some q → j ≤ m) → Points

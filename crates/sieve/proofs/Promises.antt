@@ -47,12 +47,12 @@ module _ {L : Layout} {p : Bytes} {list after : List ℕ} where
 
   reader-points : {i at : ℕ} → IsRead L p list (Refused (BadCharacter i at)) after → BeginsNeither (L .width (linesOf (cut p))) p i at
   unfolding readAnswer
-  reader-points {i} {at} h = go (verdict L p) refl (ltb (length list) (listSize L)) (sym (h .answer))
+  reader-points {i} {at} h = by-cases (verdict L p) refl (ltb (length list) (listSize L)) (sym (h .answer))
     where
-      go : (v : Verdict) → verdict L p ≡ v → (b : Bool) → readOnto L p list v (found b (under 15 0)) .answer ≡ refused (underAt 3 i at) → BeginsNeither (L .width (linesOf (cut p))) p i at
-      go (refused q) v b s = verdict-points L p i at (v ∙ s)
-      go (accepted n k) v true s = let r : under 15 0 ≡ underAt 3 i at = cc in absurd (Option·none-ne-some at (ap (λ (q : Refusal). q .place) r))
-      go (accepted n k) v false s = let z : _≡_ {A = ℕ} 0 1 = cc in absurd (omega arith)
+      by-cases : (v : Verdict) → verdict L p ≡ v → (b : Bool) → readOnto L p list v (found b (under 15 0)) .answer ≡ refused (underAt 3 i at) → BeginsNeither (L .width (linesOf (cut p))) p i at
+      by-cases (refused q) v b s = verdict-points L p i at (v ∙ s)
+      by-cases (accepted n k) v true s = let r : under 15 0 ≡ underAt 3 i at = cc in absurd (Option·none-ne-some at (ap (λ (q : Refusal). q .place) r))
+      by-cases (accepted n k) v false s = let z : _≡_ {A = ℕ} 0 1 = cc in absurd (omega arith)
 
 module _ {L : Layout} (serves : Serves L) where
   module _ {p : Bytes} {list after : List ℕ} where
@@ -67,13 +67,13 @@ module _ {L : Layout} (serves : Serves L) where
 
     reader-room-alone : IsRead L p list (Refused NoRoom) after → (length list < listSize L) × ((n : ℕ) × ((k : Break) × (verdict L p ≡ accepted n k)))
     unfolding readAnswer
-    reader-room-alone h = go (verdict L p) refl (ltb (length list) (listSize L)) refl (sym (h .answer))
+    reader-room-alone h = by-cases (verdict L p) refl (ltb (length list) (listSize L)) refl (sym (h .answer))
       where
-        go : (v : Verdict) → verdict L p ≡ v → (b : Bool) → ltb (length list) (listSize L) ≡ b → readOnto L p list v (found b (under 15 0)) .answer ≡ refused (under 15 0)
+        by-cases : (v : Verdict) → verdict L p ≡ v → (b : Bool) → ltb (length list) (listSize L) ≡ b → readOnto L p list v (found b (under 15 0)) .answer ≡ refused (under 15 0)
             → (length list < listSize L) × ((n : ℕ) × ((k : Break) × (verdict L p ≡ accepted n k)))
-        go (refused q) v b e s = absurd (never-14-or-15 serves p (under 15 0) (v ∙ s) .1 refl)
-        go (accepted n k) v true e s = (ltb-true _ _ e, (n, (k, v)))
-        go (accepted n k) v false e s = let z : _≡_ {A = ℕ} 0 1 = cc in absurd (omega arith)
+        by-cases (refused q) v b e s = absurd (never-14-or-15 serves p (under 15 0) (v ∙ s) .1 refl)
+        by-cases (accepted n k) v true e s = (ltb-true _ _ e, (n, (k, v)))
+        by-cases (accepted n k) v false e s = let z : _≡_ {A = ℕ} 0 1 = cc in absurd (omega arith)
 
   bill-is-accepted : {b : Bill} {list after : List ℕ} {r : Answer} → listSize L ≤ length list → Keeps L b → IsRead L (written b) list r after → r ≡ Accepted (length (b .lines)) (b .break)
   bill-is-accepted {b} {list} {r = r} room h k = one-answer r _ (k .answer ∙ bill-reads serves b list room h)

@@ -28,20 +28,20 @@ clean-bytes (x ∷ l) h =
 
 bytes-clean : (l : Bytes) → Clean l → (x : ℕ) → List·Memᴰ x l → ofBreak x ≡ false
 bytes-clean [] c x m = absurd (List·Memᴰ·not-nil m)
-bytes-clean (y ∷ l) (one-more a b c) x m = go (List·Memᴰ·cases-cons m) (bytes-clean l c x)
+bytes-clean (y ∷ l) (one-more a b c) x m = by-cases (List·Memᴰ·cases-cons m) (bytes-clean l c x)
   where
-    go : (x ≡ y) ⊎ List·Memᴰ x l → (List·Memᴰ x l → ofBreak x ≡ false) → ofBreak x ≡ false
-    go (inl e) ih = rw (e, ne-eqb y 10 a, ne-eqb y 13 b)
-    go (inr m) ih = ih m
+    by-cases : (x ≡ y) ⊎ List·Memᴰ x l → (List·Memᴰ x l → ofBreak x ≡ false) → ofBreak x ≡ false
+    by-cases (inl e) ih = rw (e, ne-eqb y 10 a, ne-eqb y 13 b)
+    by-cases (inr m) ih = ih m
 
 pub unstray-clean : (k : Break) (ls : List Bytes) (i at : ℕ) → strayBreak i (placed at k ls) ≡ none → Each Clean ls
 unfolding strayBreak placed
 unstray-clean k [] i at h = λ l m. absurd (List·Memᴰ·not-nil m)
-unstray-clean k (l ∷ ls) i at h = go (firstSuch ofBreak at l) refl (unstray-clean k ls (suc i) (at + length l + length (breakBytes k)))
+unstray-clean k (l ∷ ls) i at h = by-cases (firstSuch ofBreak at l) refl (unstray-clean k ls (suc i) (at + length l + length (breakBytes k)))
   where
-    go : (o : Option ℕ) → firstSuch ofBreak at l ≡ o → (strayBreak (suc i) (placed (at + length l + length (breakBytes k)) k ls) ≡ none → Each Clean ls) → Each Clean (l ∷ ls)
-    go none e ih = each (clean-bytes l (such-none ofBreak at l e)) (ih (rw (e, strayBreak) at h))
-    go (some j) e ih = absurd (Option·none-ne-some _ (sym (rw (e, strayBreak) at h)))
+    by-cases : (o : Option ℕ) → firstSuch ofBreak at l ≡ o → (strayBreak (suc i) (placed (at + length l + length (breakBytes k)) k ls) ≡ none → Each Clean ls) → Each Clean (l ∷ ls)
+    by-cases none e ih = each (clean-bytes l (such-none ofBreak at l e)) (ih (rw (e, strayBreak) at h))
+    by-cases (some j) e ih = absurd (Option·none-ne-some _ (sym (rw (e, strayBreak) at h)))
 
 pub clean-unstray : (k : Break) (ls : List Bytes) (i at : ℕ) → Each Clean ls → strayBreak i (placed at k ls) ≡ none
 unfolding strayBreak placed
@@ -79,12 +79,12 @@ clean-strays (l ∷ ls) h = omega (arith, none-in l (h l (List·Memᴰ·head ref
 
 in-none : (l : Bytes) → breakBytesIn l ≡ 0 → (x : ℕ) → List·Memᴰ x l → ofBreak x ≡ false
 in-none [] h x m = absurd (List·Memᴰ·not-nil m)
-in-none (y ∷ l) h x m = go (ofBreak y) refl (List·Memᴰ·cases-cons m) (in-none l (omega arith) x)
+in-none (y ∷ l) h x m = by-cases (ofBreak y) refl (List·Memᴰ·cases-cons m) (in-none l (omega arith) x)
   where
-    go : (b : Bool) → ofBreak y ≡ b → (x ≡ y) ⊎ List·Memᴰ x l → (List·Memᴰ x l → ofBreak x ≡ false) → ofBreak x ≡ false
-    go true e m ih = absurd (omega (arith, rw e at h))
-    go false e (inl s) ih = rw s e
-    go false e (inr i) ih = ih i
+    by-cases : (b : Bool) → ofBreak y ≡ b → (x ≡ y) ⊎ List·Memᴰ x l → (List·Memᴰ x l → ofBreak x ≡ false) → ofBreak x ≡ false
+    by-cases true e m ih = absurd (omega (arith, rw e at h))
+    by-cases false e (inl s) ih = rw s e
+    by-cases false e (inr i) ih = ih i
 
 strays-clean : (ls : List Bytes) → strays ls ≡ 0 → Each Clean ls
 strays-clean [] h = λ l m. absurd (List·Memᴰ·not-nil m)
@@ -108,10 +108,10 @@ pub record StrayFound (i : ℕ) (ls : List Placed) (r : Refusal) : Type 0 where
 pub stray-found : (i : ℕ) (ls : List Placed) (r : Refusal) → strayBreak i ls ≡ some r → StrayFound i ls r
 unfolding strayBreak
 stray-found i [] r h = absurd (Option·none-ne-some r h)
-stray-found i (l ∷ ls) r h = go (firstSuch ofBreak (l .start) (l .text)) refl (stray-found (suc i) ls r)
+stray-found i (l ∷ ls) r h = by-cases (firstSuch ofBreak (l .start) (l .text)) refl (stray-found (suc i) ls r)
   where
-    go : (o : Option ℕ) → firstSuch ofBreak (l .start) (l .text) ≡ o → (strayBreak (suc i) ls ≡ some r → StrayFound (suc i) ls r) → StrayFound i (l ∷ ls) r
-    go none e ih = let s = ih (rw (e, strayBreak) at h) in record { line = omega (arith, s .line); is = s .is }
-    go (some at) e ih =
+    by-cases : (o : Option ℕ) → firstSuch ofBreak (l .start) (l .text) ≡ o → (strayBreak (suc i) ls ≡ some r → StrayFound (suc i) ls r) → StrayFound i (l ∷ ls) r
+    by-cases none e ih = let s = ih (rw (e, strayBreak) at h) in record { line = omega (arith, s .line); is = s .is }
+    by-cases (some at) e ih =
         let s : underAt 3 i at ≡ r = Option·some-injective _ _ (rw (e, strayBreak) at h) in
         rw (← s) (record { line = omega arith; is = refl })

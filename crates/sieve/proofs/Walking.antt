@@ -12,7 +12,7 @@ use Rattle.sieve.specs.declared.Break.the-variants.{Lf, CrLf}
 use Rattle.sieve.specs.Bytes.{Bytes}
 use Rattle.sieve.specs.Lines.{Next, Cut, cut, gluedAfter, breakBytes, afterBreaks, joined, linesOf}
 use Rattle.sieve.specs.Characters.{Width, Text, none-left, character, breakWidth, passes, walk, badPlace}
-use Rattle.sieve.specs.Lawful.{Plain, Clean, no-more, one-more, Lawful}
+use Rattle.sieve.specs.Lawful.{Unbroken, Clean, no-more, one-more, Lawful}
 use Rattle.sieve.specs.Breaks.{Passed, none-passed, one-passed}
 use Rattle.sieve.proofs.Heads.{Head, lf, crlf, other, head}
 use Rattle.sieve.proofs.Cutting.{glued-cut, cut-other, Each}
@@ -56,11 +56,11 @@ record Reads (w : Width) (k : ℕ) (c : Cut) : Type 0 where
   others : Each (Text w) (map (λ n. n .line) (c .rest))
 
 pub each : {P : Bytes → Type 0} {l : Bytes} {ls : List Bytes} → P l → Each P ls → Each P (l ∷ ls)
-each {P} {l} {ls} h hs m i = go (List·Memᴰ·cases-cons i)
+each {P} {l} {ls} h hs m i = by-cases (List·Memᴰ·cases-cons i)
   where
-    go : (m ≡ l) ⊎ List·Memᴰ m ls → P m
-    go (inl e) = rw e h
-    go (inr i) = hs m i
+    by-cases : (m ≡ l) ⊎ List·Memᴰ m ls → P m
+    by-cases (inl e) = rw e h
+    by-cases (inr i) = hs m i
 
 module _ (w : Width) (L : Lawful w) where
   -- the lines of a bill are passed
@@ -94,15 +94,15 @@ module _ (w : Width) (L : Lawful w) where
   -- and what has no bad place is lines of text
 
   width-first : (p : Bytes) → w (cut p .first) ≡ w p
-  width-first p = sym (go (cut p .first) (cut p .rest)) ∙ ap w (glued-cut p)
+  width-first p = sym (along (cut p .first) (cut p .rest)) ∙ ap w (glued-cut p)
     where
-      go : (l : Bytes) (ns : List Next) → w (l ++ gluedAfter ns) ≡ w l
-      go l [] = ends w L l at-end
-      go l (n ∷ ns) = ends w L l (at-break (n .break) (n .line ++ gluedAfter ns))
+      along : (l : Bytes) (ns : List Next) → w (l ++ gluedAfter ns) ≡ w l
+      along l [] = ends w L l at-end
+      along l (n ∷ ns) = ends w L l (at-break (n .break) (n .line ++ gluedAfter ns))
 
   -- what is known of the bytes after the first
   Known : Bytes → Type 0
-  Known s = (k i : ℕ) → Plain k s → walk w k s i ≡ none → Reads w k (cut s)
+  Known s = (k i : ℕ) → Unbroken k s → walk w k s i ≡ none → Reads w k (cut s)
 
   reads-break : {x : ℕ} {s : Bytes} (i : ℕ) → Head x s → Known s → passes w (x ∷ s) ≡ breakWidth (x ∷ s) → walk w 0 (x ∷ s) i ≡ none → Reads w 0 (cut (x ∷ s))
   unfolding walk cut Known breakWidth
@@ -114,7 +114,7 @@ module _ (w : Width) (L : Lawful w) where
       record { first = rest [] [] none-left; others = ih 0 (suc i) no-more g .others }
   reads-break i (other f g) ih e h = absurd (Option·none-ne-some _ (sym (rw (e, f, g, walk) at h)))
 
-  reads-character : {x n : ℕ} {s : Bytes} (i : ℕ) → Plain (suc n) (x ∷ s) → Known s → w (x ∷ s) ≡ suc n → walk w 0 (x ∷ s) i ≡ none → Reads w 0 (cut (x ∷ s))
+  reads-character : {x n : ℕ} {s : Bytes} (i : ℕ) → Unbroken (suc n) (x ∷ s) → Known s → w (x ∷ s) ≡ suc n → walk w 0 (x ∷ s) i ≡ none → Reads w 0 (cut (x ∷ s))
   unfolding walk Known
   reads-character {x} {n} {s} i (one-more a b p) ih e h =
       let r = ih n (suc i) p (rw (passes-character w (x ∷ s) n e, walk) at h) in
@@ -128,11 +128,11 @@ module _ (w : Width) (L : Lawful w) where
   reads (x ∷ s) (suc k) i (one-more a b p) h =
       let r = reads s k (suc i) p h in
       rw (cut-other s a b) (record { first = onto x (r .first); others = r .others })
-  reads (x ∷ s) zero i p h = go (w (x ∷ s)) refl (reads s)
+  reads (x ∷ s) zero i p h = along (w (x ∷ s)) refl (reads s)
     where
-      go : (n : ℕ) → w (x ∷ s) ≡ n → Known s → Reads w 0 (cut (x ∷ s))
-      go zero e ih = reads-break i (head x s) ih (passes-other w (x ∷ s) e) h
-      go (suc n) e ih = reads-character i (rw e at (L .plain (x ∷ s))) ih e h
+      along : (n : ℕ) → w (x ∷ s) ≡ n → Known s → Reads w 0 (cut (x ∷ s))
+      along zero e ih = reads-break i (head x s) ih (passes-other w (x ∷ s) e) h
+      along (suc n) e ih = reads-character i (rw e at (L .unbroken (x ∷ s))) ih e h
 
   pub texts : (p : Bytes) → badPlace w p ≡ none → Each (Text w) (linesOf (cut p))
   unfolding badPlace Known
@@ -141,11 +141,11 @@ module _ (w : Width) (L : Lawful w) where
   -- a line of text holds no LF and no CR
   pub text-clean : {l : Bytes} → Text w l → Clean l
   text-clean none-left = no-more
-  text-clean (character c s n g e t) = go c s (rw (e ∙ sym g) at (L .plain (c ++ s))) (text-clean t)
+  text-clean (character c s n g e t) = along c s (rw (e ∙ sym g) at (L .unbroken (c ++ s))) (text-clean t)
     where
-      go : (c s : Bytes) → Plain (length c) (c ++ s) → Clean s → Clean (c ++ s)
-      go [] s p q = q
-      go (x ∷ c) s (one-more a b p) q = one-more a b (go c s p q)
+      along : (c s : Bytes) → Unbroken (length c) (c ++ s) → Clean s → Clean (c ++ s)
+      along [] s p q = q
+      along (x ∷ c) s (one-more a b p) q = one-more a b (along c s p q)
 
 -- the walk from place i stops at place j: after `skipped` comes a run of characters and breaks, and then what begins neither
 pub record Stopped (w : Width) (skip : ℕ) (s : Bytes) (i j : ℕ) : Type 0 where
@@ -176,13 +176,13 @@ stops w (suc k) (x ∷ s) i j h =
       begins-none = r .begins-none;
       place = omega (arith, r .place);
     }
-stops w zero (x ∷ s) i j h = go (passes w (x ∷ s)) refl (λ n. stops w n s (suc i) j)
+stops w zero (x ∷ s) i j h = along (passes w (x ∷ s)) refl (λ n. stops w n s (suc i) j)
   where
-    go : (n : ℕ) → passes w (x ∷ s) ≡ n → ((n : ℕ) → walk w n s (suc i) ≡ some j → Stopped w n s (suc i) j) → Stopped w 0 (x ∷ s) i j
-    go zero e ih =
+    along : (n : ℕ) → passes w (x ∷ s) ≡ n → ((n : ℕ) → walk w n s (suc i) ≡ some j → Stopped w n s (suc i) j) → Stopped w 0 (x ∷ s) i j
+    along zero e ih =
         let f : _≡_ {A = Option ℕ} (some i) (some j) = rw (e, walk) at h in
         record { skipped = []; run = []; bad = x ∷ s; skips = refl; whole = refl; passed = none-passed; more = cons≢nil; begins-none = e; place = add-zero i ∙ cc }
-    go (suc n) e ih =
+    along (suc n) e ih =
         let r = ih n (rw (e, walk) at h) in
         record {
           skipped = [];

@@ -11,24 +11,24 @@ use Rattle.sieve.specs.declared.Break.the-variants.{Lf, CrLf}
 use Rattle.sieve.specs.Bytes.{Bytes}
 use Rattle.sieve.specs.Lines.{breakBytes}
 use Rattle.sieve.specs.Characters.{Width, breakWidth, passes}
-use Rattle.sieve.specs.Lawful.{Plain, no-more, one-more, Lawful}
+use Rattle.sieve.specs.Lawful.{Unbroken, no-more, one-more, Lawful}
 
 -- the end, or a break with anything after it
 pub data Stop : Bytes → Type 0 where
   at-end : Stop []
   at-break : (k : Break) (s : Bytes) → Stop (breakBytes k ++ s)
 
-plain-length : {n : ℕ} {s : Bytes} → Plain n s → n ≤ length s
-plain-length no-more = zero-le
-plain-length (one-more a b p) = suc-le-suc (plain-length p)
+unbroken-length : {n : ℕ} {s : Bytes} → Unbroken n s → n ≤ length s
+unbroken-length no-more = zero-le
+unbroken-length (one-more a b p) = suc-le-suc (unbroken-length p)
 
 -- plain bytes end before a stop
-plain-before : (n : ℕ) (l : Bytes) {t : Bytes} → Stop t → Plain n (l ++ t) → n ≤ length l
-plain-before zero l s p = zero-le
-plain-before (suc n) (x ∷ l) s (one-more a b p) = suc-le-suc (plain-before n l s p)
-plain-before (suc n) [] at-end p = elim p [ ]
-plain-before (suc n) [] (at-break Lf s) (one-more a b p) = absurd (a refl)
-plain-before (suc n) [] (at-break CrLf s) (one-more a b p) = absurd (b refl)
+unbroken-before : (n : ℕ) (l : Bytes) {t : Bytes} → Stop t → Unbroken n (l ++ t) → n ≤ length l
+unbroken-before zero l s p = zero-le
+unbroken-before (suc n) (x ∷ l) s (one-more a b p) = suc-le-suc (unbroken-before n l s p)
+unbroken-before (suc n) [] at-end p = elim p [ ]
+unbroken-before (suc n) [] (at-break Lf s) (one-more a b p) = absurd (a refl)
+unbroken-before (suc n) [] (at-break CrLf s) (one-more a b p) = absurd (b refl)
 
 module _ (w : Width) (L : Lawful w) where
   -- of a character that lies within l, what follows l does not matter
@@ -40,18 +40,18 @@ module _ (w : Width) (L : Lawful w) where
       ap w (split u) ∙ L .own c (r ++ t) (r ++ u) n (length-take-le (suc n) l h) (sym (ap w (split t)) ∙ e)
 
   pub ends : (l : Bytes) {t : Bytes} → Stop t → w (l ++ t) ≡ w l
-  ends l {t} s = go (w (l ++ t)) (w l) refl refl
+  ends l {t} s = along (w (l ++ t)) (w l) refl refl
     where
-      go : (n m : ℕ) → w (l ++ t) ≡ n → w l ≡ m → w (l ++ t) ≡ w l
-      go zero zero e f = e ∙ sym f
-      go (suc n) m e f = e ∙ sym (rw append-nil at (within-line l t [] n (plain-before (suc n) l s (rw e at (L .plain (l ++ t)))) e))
-      go zero (suc m) e f = absurd (suc-ne-zero m (sym (within-line l [] t m (plain-length (rw f at (L .plain l))) (rw append-nil f)) ∙ e))
+      along : (n m : ℕ) → w (l ++ t) ≡ n → w l ≡ m → w (l ++ t) ≡ w l
+      along zero zero e f = e ∙ sym f
+      along (suc n) m e f = e ∙ sym (rw append-nil at (within-line l t [] n (unbroken-before (suc n) l s (rw e at (L .unbroken (l ++ t)))) e))
+      along zero (suc m) e f = absurd (suc-ne-zero m (sym (within-line l [] t m (unbroken-length (rw f at (L .unbroken l))) (rw append-nil f)) ∙ e))
 
-  no-character : {n : ℕ} → Plain n [] → n ≡ 0
+  no-character : {n : ℕ} → Unbroken n [] → n ≡ 0
   no-character no-more = refl
 
   pub width-break : (k : Break) (s : Bytes) → w (breakBytes k ++ s) ≡ 0
-  width-break k s = ends [] (at-break k s) ∙ no-character (L .plain [])
+  width-break k s = ends [] (at-break k s) ∙ no-character (L .unbroken [])
 
   pub passes-break : (k : Break) (s : Bytes) → passes w (breakBytes k ++ s) ≡ length (breakBytes k)
   unfolding passes breakWidth

@@ -26,7 +26,7 @@ count (character c s n e h t) = suc (count t)
 unfoldable pub breakWidth : Width
 breakWidth s = cond (eqb (getD s 0 0) 10) 1 (cond (eqb (getD s 0 0) 13 && eqb (getD s 1 0) 10) 2 0)
 
--- the same of a character or a break
+-- how many bytes the character or break has that begins here
 unfoldable pub passes : Width → Width
 passes w s = cond (eqb (w s) 0) (breakWidth s) (w s)
 

@@ -3,7 +3,7 @@ use mathlib.Core.Bool.{Bool, _&&_, not}
 use mathlib.Core.List.{[], _∷_}
 use lib.Dec.{T}
 use Rattle.sieve.specs.Bytes.{Bytes, ascii}
-use Rattle.sieve.specs.Mod97.{number, remainder97, checks97}
+use Rattle.sieve.specs.Mod97.{numeral, remainder97, checks97}
 use Rattle.sieve.specs.Mod10.{carry, checkDigit, checks10}
 use Rattle.sieve.specs.Characters.{characters}
 use Rattle.sieve.specs.Kinds.{atMost}
@@ -23,5 +23,5 @@ worked =
     && not (atMost 2 1 .broken (twoUmlauts ∷ [])) && atMost 1 1 .broken (twoUmlauts ∷ [])
 
 pub the-worked-examples : T worked
-unfolding number remainder97 carry checkDigit characters
+unfolding numeral remainder97 carry checkDigit characters
 the-worked-examples = tt

@@ -16,13 +16,13 @@ abbrev pub onto : ℕ → ℕ → ℕ
 onto n x = cond (digit x) 10 100 * n + value x
 
 -- the decimal number n with a whole text more
-unfoldable pub number : ℕ → Bytes → ℕ
-number n [] = n
-number n (x ∷ s) = number (onto n x) s
+unfoldable pub numeral : ℕ → Bytes → ℕ
+numeral n [] = n
+numeral n (x ∷ s) = numeral (onto n x) s
 
 -- the first four characters moved to the end, read as one decimal number: its remainder by 97
 unfoldable pub remainder97 : Bytes → ℕ
-remainder97 s = number 0 (drop 4 s ++ take 4 s) % 97
+remainder97 s = numeral 0 (drop 4 s ++ take 4 s) % 97
 
 -- the pair of check digits: the third and fourth characters
 abbrev pub pair : Bytes → Bytes
@@ -30,4 +30,4 @@ pair s = take 2 (drop 2 s)
 
 -- a text has a pair; the pair is one that ISO 7064 yields, 02 to 98; and the remainder is 1
 abbrev pub checks97 : Bytes → Bool
-checks97 s = leb 4 (length s) && within 2 98 (number 0 (pair s)) && eqb (remainder97 s) 1
+checks97 s = leb 4 (length s) && within 2 98 (numeral 0 (pair s)) && eqb (remainder97 s) 1

@@ -6,7 +6,7 @@ use lib.Dec.{eqb}
 use lib.ListN.{length}
 use Rattle.sieve.specs.Bytes.{Bytes, ascii, every}
 use Rattle.sieve.specs.Letters.{digit}
-use Rattle.sieve.specs.Mod97.{number}
+use Rattle.sieve.specs.Mod97.{numeral}
 
 abbrev pub twoDigits : Bytes → Bool
 twoDigits p = eqb (length p) 2 && every digit p
@@ -17,7 +17,7 @@ asTwo n = (48 + n / 10) ∷ (48 + n % 10) ∷ []
 
 -- 98 less the remainder of the rest, the head and 00
 abbrev pub dueNumber : Bytes → Bytes → ℕ
-dueNumber head rest = 98 - number 0 (rest ++ (head ++ ascii "00")) % 97
+dueNumber head rest = 98 - numeral 0 (rest ++ (head ++ ascii "00")) % 97
 
 unfoldable pub duePair : Bytes → Bytes → Bytes
 duePair head rest = asTwo (dueNumber head rest)

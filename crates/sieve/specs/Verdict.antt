@@ -68,9 +68,9 @@ first [] = none
 first (o ∷ os) = elim o [ some r ↦ some r | none ↦ first os ]
 
 -- the first broken rule wins
-abbrev pub settled : Bill → Option Refusal → Verdict
-settled b none = accepted (length (b .lines)) (b .break)
-settled b (some r) = refused r
+abbrev pub decided : Bill → Option Refusal → Verdict
+decided b none = accepted (length (b .lines)) (b .break)
+decided b (some r) = refused r
 
 unfoldable pub verdict : Layout → Bytes → Verdict
-verdict L p = settled (billOf p) (first (findings L p))
+verdict L p = decided (billOf p) (first (findings L p))

@@ -89,7 +89,7 @@ module _ (ls : List Bytes) {b₀ b₁ b₂ : Bytes} {p₁ p₂ : Page} (i : IsFo
 
 -- the length told is that of the contents, and lies within the buffer
 pub as-told : {ls : List Bytes} {after : Bytes} {r : Counts} → AreMade ls after r → r .bytes ≡ length (contents ls)
-as-told is = ap (λ (c : Counts). c .bytes) (is .counts)
+as-told counts-are = ap (λ (c : Counts). c .bytes) (counts-are .counts)
 
 pub in-bounds : {ls : List Bytes} {after : Bytes} {r : Counts} → AreMade ls after r → r .bytes ≤ length after
-in-bounds {ls} is = omega (arith, as-told is, at-most-368 ls, is .size)
+in-bounds {ls} counts-are = omega (arith, as-told counts-are, at-most-368 ls, counts-are .size)

@@ -20,7 +20,7 @@ use Rattle.swift.specs.declared.Page.{Page}
 use Rattle.swift.specs.declared.Row.{Row}
 use Rattle.swift.specs.Letters.{laidLine, replacedInLine}
 use Rattle.swift.specs.Portions.{lineMost, rows, Portion, kept, cutOff, keptIn, cutIn, replacedIn}
-use Rattle.swift.specs.Rowed.{Fillable, Holds, IsBegun}
+use Rattle.swift.specs.Rowed.{RowFits, RowHolds, IsLineBegun}
 use Rattle.swift.proofs.Laying.{laid-length}
 use Rattle.swift.proofs.Bounds.{kept-append}
 use Rattle.swift.specs.Paged.{Roomy, Ready, Paged, IsLaid, IsPut}
@@ -72,7 +72,7 @@ pub replaced-one : (s : Bytes) → replacedIn (s ∷ []) ≡ replacedInLine s
 unfolding replacedIn
 replaced-one s = omega arith
 
-module _ (b b₁ b₂ : Bytes) (page : Page) (row line : Row) (ready : Ready b page) (ok : Fillable row) (is : IsBegun row line) (some : row .length ≢ 0) where
+module _ (b b₁ b₂ : Bytes) (page : Page) (row line : Row) (ready : Ready b page) (ok : RowFits row) (is : IsLineBegun row line) (some : row .length ≢ 0) where
   abbrev w : Bytes
   w = take (row .length) (line .bytes)
 
@@ -103,7 +103,7 @@ module _ (b b₁ b₂ : Bytes) (page : Page) (row line : Row) (ready : Ready b p
       }
 
 -- so it is where the tails of the buffer are lent for both
-pub row-put : {b t₁ t₂ : Bytes} {page : Page} {row line : Row} → Ready b page → Fillable row → IsBegun row line → row .length ≢ 0
+pub row-put : {b t₁ t₂ : Bytes} {page : Page} {row line : Row} → Ready b page → RowFits row → IsLineBegun row line → row .length ≢ 0
     → let at = page .at in let n = row .length in let b₁ = putMid at (length b - at) b t₁ in
     t₁ ≡ overFitting (midOf at (length b - at) b) (take (n - 0) (line .bytes)) → t₂ ≡ overFitting (midOf (at + n) (length b₁ - (at + n)) b₁) end
     → IsLaid b page row (putMid (at + n) (length b₁ - (at + n)) b₁ t₂) (record { at = at + n + 2; lines = page .lines + 1; replaced = page .replaced + line .replaced; cut = page .cut })
@@ -161,7 +161,7 @@ then-ready ready is h = record { size = is .size ∙ ready .size; roomy = is .ro
 
 -- four rows, one after the other
 pub four-laid : {b₀ b₁ b₂ b₃ b₄ : Bytes} {p₀ p₁ p₂ p₃ p₄ : Page} {r₁ r₂ r₃ r₄ : Row} → IsLaid b₀ p₀ r₁ b₁ p₁ → IsLaid b₁ p₁ r₂ b₂ p₂ → IsLaid b₂ p₂ r₃ b₃ p₃ → IsLaid b₃ p₃ r₄ b₄ p₄
-    → (ls : List Bytes) (s₁ s₂ s₃ s₄ : Bytes) → Paged b₀ p₀ ls → Holds r₁ s₁ → Holds r₂ s₂ → Holds r₃ s₃ → Holds r₄ s₄ → Paged b₄ p₄ (ls ++ (rows 1 s₁ ++ (rows 1 s₂ ++ (rows 1 s₃ ++ rows 1 s₄))))
+    → (ls : List Bytes) (s₁ s₂ s₃ s₄ : Bytes) → Paged b₀ p₀ ls → RowHolds r₁ s₁ → RowHolds r₂ s₂ → RowHolds r₃ s₃ → RowHolds r₄ s₄ → Paged b₄ p₄ (ls ++ (rows 1 s₁ ++ (rows 1 s₂ ++ (rows 1 s₃ ++ rows 1 s₄))))
 four-laid {b₄ = b₄} {p₄ = p₄} i j k l ls s₁ s₂ s₃ s₄ p h₁ h₂ h₃ h₄ =
     rw (← five ls (rows 1 s₁) (rows 1 s₂) (rows 1 s₃) (rows 1 s₄))
     (l .paged (((ls ++ rows 1 s₁) ++ rows 1 s₂) ++ rows 1 s₃) s₄ (k .paged ((ls ++ rows 1 s₁) ++ rows 1 s₂) s₃ (j .paged (ls ++ rows 1 s₁) s₂ (i .paged ls s₁ p h₁) h₂) h₃) h₄)

@@ -31,34 +31,34 @@ one-mapping {q = q} {r = r} h k = (one-mapped q r (h .answer ∙ sym (k .answer)
 -- a refusal changes no byte
 pub refusal-changes-nothing : {L : Layout} {p dest : Bytes} {f : Fault} {after : Bytes} → IsMapped L p dest (Refused f) after → after ≡ dest
 unfolding fieldsAnswer
-refusal-changes-nothing {L} {p} {dest} {f} h = h .lent ∙ go (first (fieldFindings L p _)) (h .answer)
+refusal-changes-nothing {L} {p} {dest} {f} h = h .lent ∙ by-cases (first (fieldFindings L p _)) (h .answer)
   where
-    go : (o : Option Refusal) → not-mapped (paperFault f) ≡ mappedOnto (linesOf (cut p)) dest o .answer → mappedOnto (linesOf (cut p)) dest o .lent ≡ dest
-    go none e = let z : _≡_ {A = ℕ} 0 1 = cc in absurd (omega arith)
-    go (some r) e = refl
+    by-cases : (o : Option Refusal) → not-mapped (paperFault f) ≡ mappedOnto (linesOf (cut p)) dest o .answer → mappedOnto (linesOf (cut p)) dest o .lent ≡ dest
+    by-cases none e = let z : _≡_ {A = ℕ} 0 1 = cc in absurd (omega arith)
+    by-cases (some r) e = refl
 
 -- else the counts are told, the contents lie in the front, and what lies behind them stays
 pub laid-in-front : {L : Layout} {p dest : Bytes} {c : Counts} {after : Bytes} → IsMapped L p dest (Laid c) after → (c ≡ countsOf (linesOf (cut p))) × (after ≡ over dest (contents (linesOf (cut p))))
 unfolding fieldsAnswer
-laid-in-front {L} {p} {dest} {c} h = let (told, is) = go (first (fieldFindings L p _)) (h .answer) in (told, h .lent ∙ is)
+laid-in-front {L} {p} {dest} {c} h = let (told, is) = by-cases (first (fieldFindings L p _)) (h .answer) in (told, h .lent ∙ is)
   where
-    go : (o : Option Refusal) → mapped c ≡ mappedOnto (linesOf (cut p)) dest o .answer → (c ≡ countsOf (linesOf (cut p))) × (mappedOnto (linesOf (cut p)) dest o .lent ≡ over dest (contents (linesOf (cut p))))
-    go none e = (cc, refl)
-    go (some r) e = let z : _≡_ {A = ℕ} 0 1 = cc in absurd (omega arith)
+    by-cases : (o : Option Refusal) → mapped c ≡ mappedOnto (linesOf (cut p)) dest o .answer → (c ≡ countsOf (linesOf (cut p))) × (mappedOnto (linesOf (cut p)) dest o .lent ≡ over dest (contents (linesOf (cut p))))
+    by-cases none e = (cc, refl)
+    by-cases (some r) e = let z : _≡_ {A = ℕ} 0 1 = cc in absurd (omega arith)
 
 -- what is found is what is told: nothing where the fields are laid, else the refusal
 pub laid-found-nothing : {L : Layout} {p dest : Bytes} {c : Counts} {after : Bytes} → IsMapped L p dest (Laid c) after → first (fieldFindings L p (length dest)) ≡ none
 unfolding fieldsAnswer
-laid-found-nothing {L} {p} {dest} {c} h = go (first (fieldFindings L p (length dest))) (h .answer)
+laid-found-nothing {L} {p} {dest} {c} h = by-cases (first (fieldFindings L p (length dest))) (h .answer)
   where
-    go : (o : Option Refusal) → mapped c ≡ mappedOnto (linesOf (cut p)) dest o .answer → o ≡ none
-    go none e = refl
-    go (some r) e = let z : _≡_ {A = ℕ} 0 1 = cc in absurd (omega arith)
+    by-cases : (o : Option Refusal) → mapped c ≡ mappedOnto (linesOf (cut p)) dest o .answer → o ≡ none
+    by-cases none e = refl
+    by-cases (some r) e = let z : _≡_ {A = ℕ} 0 1 = cc in absurd (omega arith)
 
 pub refused-found : {L : Layout} {p dest : Bytes} {f : Fault} {after : Bytes} → IsMapped L p dest (Refused f) after → first (fieldFindings L p (length dest)) ≡ some (paperFault f)
 unfolding fieldsAnswer
-refused-found {L} {p} {dest} {f} h = go (first (fieldFindings L p (length dest))) (h .answer)
+refused-found {L} {p} {dest} {f} h = by-cases (first (fieldFindings L p (length dest))) (h .answer)
   where
-    go : (o : Option Refusal) → not-mapped (paperFault f) ≡ mappedOnto (linesOf (cut p)) dest o .answer → o ≡ some (paperFault f)
-    go none e = let z : _≡_ {A = ℕ} 0 1 = cc in absurd (omega arith)
-    go (some r) e = let s : paperFault f ≡ r = cc in ap some (sym s)
+    by-cases : (o : Option Refusal) → not-mapped (paperFault f) ≡ mappedOnto (linesOf (cut p)) dest o .answer → o ≡ some (paperFault f)
+    by-cases none e = let z : _≡_ {A = ℕ} 0 1 = cc in absurd (omega arith)
+    by-cases (some r) e = let s : paperFault f ≡ r = cc in ap some (sym s)

@@ -18,7 +18,7 @@ use Rattle.swift.specs.declared.Row.{Row}
 use Rattle.sieve.proofs.Bounds.{is-within}
 use Rattle.swift.specs.Letters.{leads, inX, fullStop, replaced, laidByte, laidFrom, replacedFrom}
 use Rattle.swift.specs.Portions.{lineMost}
-use Rattle.swift.specs.Rowed.{Fillable, Holds, IsFilled, Lined, Small, IsAdded}
+use Rattle.swift.specs.Rowed.{RowFits, RowHolds, IsFilled, Lined, SmallLine, IsAdded}
 use Rattle.swift.proofs.Laying.{leads-count, wide-replaced}
 use Rattle.swift.proofs.Bounds.{leads-short, leads-append}
 
@@ -39,9 +39,9 @@ at-most-one true = omega arith
 at-most-one false = omega arith
 
 -- a row with one character more
-one-put : (row : Row) (x v n : ℕ) → Fillable row → row .length < lineMost → v ≡ laidByte false x → n ≡ row .replaced + cond (replaced false x) 1 0
+one-put : (row : Row) (x v n : ℕ) → RowFits row → row .length < lineMost → v ≡ laidByte false x → n ≡ row .replaced + cond (replaced false x) 1 0
     → let next : Row = record { bytes = set (row .bytes) (row .length) v; length = row .length + 1; replaced = n } in
-    Fillable next × ((s : Bytes) → Holds row s → Holds next (s ++ (x ∷ [])))
+    RowFits next × ((s : Bytes) → RowHolds row s → RowHolds next (s ++ (x ∷ [])))
 one-put row x v n ok more is told = (
   record { room = length-set (row .bytes) (row .length) v ∙ ok .room; few = omega arith; fewer = omega (arith, ok .fewer, told, at-most-one (replaced false x)) },
   λ s h. record {
@@ -61,19 +61,19 @@ unfolding replaced
 out-of-x x e = rw e
 
 pub in-x-begins : (x : ℕ) → inX x ≡ true → within 0x80 0xBF x ≡ false
-in-x-begins x e = go (within 0x80 0xBF x) refl
+in-x-begins x e = by-cases (within 0x80 0xBF x) refl
   where
-    go : (b : Bool) → within 0x80 0xBF x ≡ b → b ≡ false
-    go false f = refl
-    go true f = absurd (true≢false (sym (wide-replaced false x (omega (arith, is-within 0x80 0xBF x f))) ∙ in-x-stays x e))
+    by-cases : (b : Bool) → within 0x80 0xBF x ≡ b → b ≡ false
+    by-cases false f = refl
+    by-cases true f = absurd (true≢false (sym (wide-replaced false x (omega (arith, is-within 0x80 0xBF x f))) ∙ in-x-stays x e))
 
 -- while a text is put behind a row
 pub record Going (row : Row) (text : Bytes) (from : ℕ) (next : Row) (at : ℕ) : Type 0 where
-  pub fillable : Fillable next
+  pub fillable : RowFits next
   pub within : at ≤ length text
-  pub reached : (s : Bytes) → Holds row s → (d : Bytes) × (Holds next d × (d ++ leads (drop at text) ≡ s ++ leads (drop from text)))
+  pub reached : (s : Bytes) → RowHolds row s → (d : Bytes) × (RowHolds next d × (d ++ leads (drop at text) ≡ s ++ leads (drop from text)))
 
-pub begun : (row : Row) (text : Bytes) (from : ℕ) → Fillable row → from ≤ length text → Going row text from row from
+pub begun : (row : Row) (text : Bytes) (from : ℕ) → RowFits row → from ≤ length text → Going row text from row from
 begun row text from ok h = record { fillable = ok; within = h; reached = λ s k. (s, (k, refl)) }
 
 -- the byte at a place begins a character, or it does not
@@ -88,7 +88,7 @@ module _ {row : Row} {text : Bytes} {from : ℕ} {next : Row} {at : ℕ} (g : Go
       let skip : leads (drop at text) ≡ leads (drop (at + 1) text) = leads-step text at h ∙ rw (not-false (within 0x80 0xBF (getD text at 0)) e) in
       record { fillable = g .fillable; within = omega arith; reached = λ s k. let (d, (l, q)) = g .reached s k in (d, (l, rw (← skip) q)) }
 
-  put-on : {more : Row} → at < length text → within 0x80 0xBF (getD text at 0) ≡ false → Fillable more × ((s : Bytes) → Holds next s → Holds more (s ++ (getD text at 0 ∷ []))) → Going row text from more (at + 1)
+  put-on : {more : Row} → at < length text → within 0x80 0xBF (getD text at 0) ≡ false → RowFits more × ((s : Bytes) → RowHolds next s → RowHolds more (s ++ (getD text at 0 ∷ []))) → Going row text from more (at + 1)
   put-on h e m =
       let x = getD text at 0 in
       let onto : leads (drop at text) ≡ x ∷ leads (drop (at + 1) text) = leads-step text at h ∙ rw e in
@@ -115,7 +115,7 @@ module _ {row : Row} {text : Bytes} {from : ℕ} {next : Row} {at : ℕ} (g : Go
 
   -- the row is full, or the text ends
 
-  full : (s : Bytes) → Holds row s → next .length ≡ lineMost → Holds next (take lineMost (s ++ leads (drop from text))) × (leads (drop at text) ≡ drop lineMost (s ++ leads (drop from text)))
+  full : (s : Bytes) → RowHolds row s → next .length ≡ lineMost → RowHolds next (take lineMost (s ++ leads (drop from text))) × (leads (drop at text) ≡ drop lineMost (s ++ leads (drop from text)))
   full s k h =
       let (d, (l, q)) = g .reached s k in
       let size : length d ≡ lineMost = sym (l .size) ∙ h in
@@ -128,7 +128,7 @@ module _ {row : Row} {text : Bytes} {from : ℕ} {next : Row} {at : ℕ} (g : Go
   unfolding leads
   nothing-left h = rw (drop-of-length-le text h)
 
-  ended : (s : Bytes) → Holds row s → length text ≤ at → Holds next (take lineMost (s ++ leads (drop from text))) × (leads (drop at text) ≡ drop lineMost (s ++ leads (drop from text)))
+  ended : (s : Bytes) → RowHolds row s → length text ≤ at → RowHolds next (take lineMost (s ++ leads (drop from text))) × (leads (drop at text) ≡ drop lineMost (s ++ leads (drop from text)))
   ended s k h =
       let (d, (l, q)) = g .reached s k in
       let whole : d ≡ s ++ leads (drop from text) = sym (append-nil d) ∙ ap (λ (r : Bytes). d ++ r) (sym (nothing-left h)) ∙ q in
@@ -140,11 +140,11 @@ module _ {row : Row} {text : Bytes} {from : ℕ} {next : Row} {at : ℕ} (g : Go
 
 -- of characters behind the first 35 none finds room
 take-once : (s l : Bytes) → take lineMost (take lineMost s ++ l) ≡ take lineMost (s ++ l)
-take-once s l = go (leb (length s) lineMost) refl
+take-once s l = by-cases (leb (length s) lineMost) refl
   where
-    go : (b : Bool) → leb (length s) lineMost ≡ b → take lineMost (take lineMost s ++ l) ≡ take lineMost (s ++ l)
-    go true e = rw (take-all lineMost s (leb-true _ _ e))
-    go false e =
+    by-cases : (b : Bool) → leb (length s) lineMost ≡ b → take lineMost (take lineMost s ++ l) ≡ take lineMost (s ++ l)
+    by-cases true e = rw (take-all lineMost s (leb-true _ _ e))
+    by-cases false e =
         let more : lineMost < length s = leb-false _ _ e in
         let size = length-take-le lineMost s (omega arith) in
         take-append-le lineMost (take lineMost s) l (omega (arith, size)) ∙ take-take lineMost lineMost s (omega arith) ∙ sym (take-append-le lineMost s l (omega arith))
@@ -176,5 +176,5 @@ pub none-added : {line : Line} → Lined line [] → Lined line (leads [])
 unfolding leads
 none-added l = l
 
-pub widened : {line : Line} {m n : ℕ} → Small line m → m ≤ n → Small line n
+pub widened : {line : Line} {m n : ℕ} → SmallLine line m → m ≤ n → SmallLine line n
 widened h k = record { fillable = h .fillable; few = omega (arith, h .few) }

@@ -17,13 +17,13 @@ use Rattle.swiss.specs.Swiss.{swissIn}
 use Rattle.swift.specs.Letters.{replacedFrom, replaced}
 use Rattle.swift.specs.Portions.{Portion, onLines, keptIn, replacedIn}
 use Rattle.swift.specs.Fields.{prefixed, spaced, streetText, townText, structuredLines, combinedLines, beneficiary, withComma, transaction, remittance, fields, countsOf}
-use Rattle.swift.specs.Promised.{charactersIn, AreSmall}
+use Rattle.swift.specs.Promised.{charactersOf, AreSmall}
 use Rattle.swift.proofs.Bounds.{leads-short, few-lines}
 use Rattle.swift.proofs.Filling.{nothing-lost}
 use Rattle.swift.proofs.Remitting.{short-line}
 
-characters-append : (a b : List Portion) → charactersIn (a ++ b) ≡ charactersIn a + charactersIn b
-unfolding charactersIn
+characters-append : (a b : List Portion) → charactersOf (a ++ b) ≡ charactersOf a + charactersOf b
+unfolding charactersOf
 characters-append [] b = omega arith
 characters-append (q ∷ a) b = omega (arith, characters-append a b)
 
@@ -65,30 +65,30 @@ module _ (e : Edition) (p : Bytes) (nothing : first (findings (swissIn e) p) ≡
   short : (n : ℕ) → 1 ≤ n → n ≤ 34 → length (line n ls) ≤ 1024
   short n lo hi = short-line e p n nothing lo hi
 
-  few-in-beneficiary : charactersIn (beneficiary ls) ≤ 8192
-  unfolding charactersIn beneficiary
-  few-in-beneficiary = omega (arith, leads-short (ascii "/" ++ line 4 ls), short 4 (lit≤ tt) (lit≤ tt), go (is 5 combined ls))
+  few-in-beneficiary : charactersOf (beneficiary ls) ≤ 8192
+  unfolding charactersOf beneficiary
+  few-in-beneficiary = omega (arith, leads-short (ascii "/" ++ line 4 ls), short 4 (lit≤ tt) (lit≤ tt), by-cases (is 5 combined ls))
     where
-      go : (b : Bool) → charactersIn (cond b (combinedLines ls) (structuredLines ls)) ≤ 7100
-      go true =
+      by-cases : (b : Bool) → charactersOf (cond b (combinedLines ls) (structuredLines ls)) ≤ 7100
+      by-cases true =
           omega (arith, leads-short (line 6 ls), leads-short (line 7 ls), leads-short (line 8 ls), leads-short (line 11 ls), short 6 (lit≤ tt) (lit≤ tt), short 7 (lit≤ tt) (lit≤ tt), short 8 (lit≤ tt) (lit≤ tt), short 11 (lit≤ tt) (lit≤ tt))
-      go false =
+      by-cases false =
           omega (arith, leads-short (ascii "1/" ++ line 6 ls), leads-short (streetText (line 7 ls) (line 8 ls)), street-short (line 7 ls) (line 8 ls), leads-short (townText (line 11 ls) (line 9 ls) (line 10 ls)), town-short (line 11 ls) (line 9 ls) (line 10 ls), short 6 (lit≤ tt) (lit≤ tt), short 7 (lit≤ tt) (lit≤ tt), short 8 (lit≤ tt) (lit≤ tt), short 9 (lit≤ tt) (lit≤ tt), short 10 (lit≤ tt) (lit≤ tt), short 11 (lit≤ tt) (lit≤ tt))
 
-  few-in-transaction : charactersIn (transaction ls) ≤ 2048
-  unfolding charactersIn transaction
+  few-in-transaction : charactersOf (transaction ls) ≤ 2048
+  unfolding charactersOf transaction
   few-in-transaction =
       omega (arith, leads-short (line 20 ls ++ withComma (line 19 ls)), length-append (line 20 ls) (withComma (line 19 ls)), length-map (line 19 ls) (λ x. cond (eqb x 46) 44 x), short 19 (lit≤ tt) (lit≤ tt), short 20 (lit≤ tt) (lit≤ tt))
 
-  few-in-remittance : charactersIn (remittance ls) ≤ 4096
-  unfolding remittance charactersIn
-  few-in-remittance = go (same (line 28 ls) (ascii noReference))
+  few-in-remittance : charactersOf (remittance ls) ≤ 4096
+  unfolding remittance charactersOf
+  few-in-remittance = by-cases (same (line 28 ls) (ascii noReference))
     where
-      go : (b : Bool) → charactersIn (cond b (onLines 4 (line 30 ls) ∷ []) (onLines 1 (line 28 ls ++ (ascii "/" ++ line 29 ls)) ∷ onLines 3 (line 30 ls) ∷ [])) ≤ 4096
-      go true = omega (arith, leads-short (line 30 ls), short 30 (lit≤ tt) (lit≤ tt))
-      go false = omega (arith, leads-short (line 28 ls ++ (ascii "/" ++ line 29 ls)), length-append (line 28 ls) (ascii "/" ++ line 29 ls), leads-short (line 30 ls), short 28 (lit≤ tt) (lit≤ tt), short 29 (lit≤ tt) (lit≤ tt), short 30 (lit≤ tt) (lit≤ tt))
+      by-cases : (b : Bool) → charactersOf (cond b (onLines 4 (line 30 ls) ∷ []) (onLines 1 (line 28 ls ++ (ascii "/" ++ line 29 ls)) ∷ onLines 3 (line 30 ls) ∷ [])) ≤ 4096
+      by-cases true = omega (arith, leads-short (line 30 ls), short 30 (lit≤ tt) (lit≤ tt))
+      by-cases false = omega (arith, leads-short (line 28 ls ++ (ascii "/" ++ line 29 ls)), length-append (line 28 ls) (ascii "/" ++ line 29 ls), leads-short (line 30 ls), short 28 (lit≤ tt) (lit≤ tt), short 29 (lit≤ tt) (lit≤ tt), short 30 (lit≤ tt) (lit≤ tt))
 
-  few-characters : charactersIn (fields ls) ≤ 14336
+  few-characters : charactersOf (fields ls) ≤ 14336
   few-characters =
       omega (arith, characters-append (beneficiary ls) (transaction ls ++ remittance ls), characters-append (transaction ls) (remittance ls), few-in-beneficiary, few-in-transaction, few-in-remittance)
 

@@ -52,6 +52,6 @@ pub record IsMapped (L : Layout) (p dest : Bytes) (r : Mapped) (after : Bytes) :
   pub answer : paperMapped r ≡ fieldsAnswer L p dest .answer
   pub lent : after ≡ fieldsAnswer L p dest .lent
 
--- the same of a payload that an edition accepts, whichever it is
+-- the mapping of a payload that some edition accepts, whichever it is
 abbrev pub IsMappedBill : Bytes → Bytes → Mapped → Bytes → Type 0
 IsMappedBill p dest r after = (e : Edition) → first (findings (swissIn e) p) ≡ none → IsMapped (swissIn e) p dest r after

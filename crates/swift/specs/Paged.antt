@@ -22,7 +22,7 @@ use Rattle.swift.specs.declared.Row.{Row}
 use Rattle.swift.specs.Letters.{leads, laidLine}
 use Rattle.swift.specs.Portions.{lineMost, rows, Portion, onLines, keptIn, cutIn, replacedIn}
 use Rattle.swift.specs.Fields.{remittanceOf, contents, countsOf}
-use Rattle.swift.specs.Rowed.{Fillable, Holds, Lined}
+use Rattle.swift.specs.Rowed.{RowFits, RowHolds, Lined}
 
 -- its counts are in bounds: a line takes at most 35 bytes and CR LF
 pub record Roomy (page : Page) : Type 0 where
@@ -48,7 +48,7 @@ pub record IsLaid (buffer : Bytes) (page : Page) (row : Row) (after : Bytes) (r 
   pub roomy : Roomy r
   pub more : r .lines ≤ page .lines + 1
   pub cut : r .cut ≡ page .cut
-  pub paged : (ls : List Bytes) (s : Bytes) → Paged buffer page ls → Holds row s → Paged after r (ls ++ rows 1 s)
+  pub paged : (ls : List Bytes) (s : Bytes) → Paged buffer page ls → RowHolds row s → Paged after r (ls ++ rows 1 s)
 
 -- the page holds the lines of these portions, and what was cut of them is counted
 pub record Sheet (buffer : Bytes) (page : Page) (qs : List Portion) : Type 0 where
@@ -64,7 +64,7 @@ pub record IsPut (buffer : Bytes) (page : Page) (line : Line) (after : Bytes) (r
   pub sheet : (qs : List Portion) (s : Bytes) → Sheet buffer page qs → Lined line s → Sheet after r (qs ++ (record { text = s; lines = 1 } ∷ []))
 
 abbrev pub AllFillable : List Row → Type 0
-AllFillable rows = (d : Row) (k : ℕ) → k < 4 → Fillable (getD rows k d)
+AllFillable rows = (d : Row) (k : ℕ) → k < 4 → RowFits (getD rows k d)
 
 -- four rows were laid, one after the other
 pub record AreLaid (buffer : Bytes) (page : Page) (four : List Row) (after : Bytes) (r : Page) : Type 0 where
@@ -72,7 +72,7 @@ pub record AreLaid (buffer : Bytes) (page : Page) (four : List Row) (after : Byt
   pub roomy : Roomy r
   pub more : r .lines ≤ page .lines + 4
   pub cut : r .cut ≡ page .cut
-  pub paged : (ls : List Bytes) (t : ℕ → Bytes) → Paged buffer page ls → ((d : Row) (k : ℕ) → k < 4 → Holds (getD four k d) (t k)) → Paged after r (ls ++ (rows 1 (t 0) ++ (rows 1 (t 1) ++ (rows 1 (t 2) ++ rows 1 (t 3)))))
+  pub paged : (ls : List Bytes) (t : ℕ → Bytes) → Paged buffer page ls → ((d : Row) (k : ℕ) → k < 4 → RowHolds (getD four k d) (t k)) → Paged after r (ls ++ (rows 1 (t 0) ++ (rows 1 (t 1) ++ (rows 1 (t 2) ++ rows 1 (t 3)))))
 
 -- a page with room for n lines more, on a buffer for ten; of each line at most 8192 characters are cut
 pub record Open (buffer : Bytes) (page : Page) (n : ℕ) : Type 0 where
@@ -120,6 +120,10 @@ remitted (suc n) s m = record { text = s; lines = 1 } ∷ record { text = m; lin
 -- it was laid behind what lay on the page
 pub record IsRemitted (buffer : Bytes) (page : Page) (reference : Line) (first : ℕ) (text : Bytes) (after : Bytes) (r : Page) : Type 0 where
   pub follows : (s : Bytes) → Lined reference s → (first ≡ 0 → s ≡ []) → IsFollowed buffer page 4 (remitted first s (leads text)) after r
+
+-- so of what a call is lent, at its entry and at its exit
+abbrev pub IsRemittedOn : (buffer : Both (RefT Bytes) (RefT Bytes)) → Page → Line → ℕ → (message : Both (RefT Bytes) (RefT Bytes)) → Page → Type 0
+IsRemittedOn buffer page reference first message r = IsRemitted (now (buffer .entry)) page reference first (now (message .entry)) (now (buffer .exit)) r
 
 -- a bill that the reader accepts under an edition, and the places of its lines
 pub record Payable (p : Bytes) (places : List ℕ) : Type 0 where

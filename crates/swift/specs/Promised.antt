@@ -22,9 +22,9 @@ abbrev pub layable : ℕ → Bool
 layable x = inX x || ofBreak x
 
 -- how many characters a field has before it is cut
-unfoldable pub charactersIn : List Portion → ℕ
-charactersIn [] = 0
-charactersIn (q ∷ qs) = length (q .text) + charactersIn qs
+unfoldable pub charactersOf : List Portion → ℕ
+charactersOf [] = 0
+charactersOf (q ∷ qs) = length (q .text) + charactersOf qs
 
 -- how many lines there are for it
 unfoldable pub linesFor : List Portion → ℕ

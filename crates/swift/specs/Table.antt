@@ -12,7 +12,7 @@ use Rattle.sieve.specs.Cases.{lines, put, putBytes, times}
 use Rattle.sieve.specs.Characters.{breakWidth, passes, walk, badPlace, characters, lineFeeds}
 use Rattle.sieve.specs.Latin.{latin}
 use Rattle.sieve.specs.Lines.{joined, cut}
-use Rattle.sieve.specs.Mod97.{number, remainder97}
+use Rattle.sieve.specs.Mod97.{numeral, remainder97}
 use Rattle.sieve.specs.Mod10.{carry, checkDigit}
 use Rattle.sieve.specs.Verdict.{findings, first}
 use Rattle.swiss.specs.Base.{B}
@@ -25,32 +25,32 @@ use Rattle.swift.specs.Fields.{beneficiary, transaction, remittance}
 use Rattle.swift.specs.Answering.{Mapping, mapped, not-mapped, fieldFindings, fieldsAnswer}
 
 -- lines of each field, characters cut, characters replaced
-pub record Told : Type 0 where
+pub record Tally : Type 0 where
   pub beneficiary : ℕ
   pub transaction : ℕ
   pub remittance : ℕ
   pub cut : ℕ
   pub replaced : ℕ
 
-abbrev told : ℕ → ℕ → ℕ → ℕ → ℕ → Told
+abbrev told : ℕ → ℕ → ℕ → ℕ → ℕ → Tally
 told a b c cut replaced = record { beneficiary = a; transaction = b; remittance = c; cut = cut; replaced = replaced }
 
 -- room for the longest
 abbrev room : Bytes
 room = times 302 (ascii "x")
 
-abbrev laidWith : Bytes → Told → Mapping → Bool
+abbrev laidWith : Bytes → Tally → Mapping → Bool
 laidWith w t (not-mapped r) = false
 laidWith w t (mapped k) = eqb (k .bytes) (length w) && eqb (k .beneficiary) (t .beneficiary) && eqb (k .transaction) (t .transaction) && eqb (k .remittance) (t .remittance) && eqb (k .cut) (t .cut) && eqb (k .replaced) (t .replaced)
 
 -- of a bill, the lines that are laid, parted by `|` here, and what is told; what lies behind them stays
-abbrev pub laysIn : Edition → Break → List Bytes → String → Told → Bool
+abbrev pub laysIn : Edition → Break → List Bytes → String → Tally → Bool
 laysIn e k ls text t =
     let w = joined CrLf (lines text) in
     let d = fieldsAnswer (swissIn e) (joined k ls) room in
     laidWith w t (d .answer) && same (d .lent) (over room w)
 
-abbrev pub lays : Break → List Bytes → String → Told → Bool
+abbrev pub lays : Break → List Bytes → String → Tally → Bool
 lays = laysIn V24
 
 abbrev refusedAs : ℕ → ℕ → Mapping → Bool
@@ -94,7 +94,7 @@ longest = putBytes 6 (times 33 (ascii "n")) (putBytes 7 (times 33 (ascii "s")) (
 abbrev longestText : String
 longestText = "/CH5800791123000889012|1/nnnnnnnnnnnnnnnnnnnnnnnnnnnnnnnnn|2/sssssssssssssssssssssssssssssssss|3/CH/8000 ttttttttttttttttttttttttt|CHF999999999,99|mmmmmmmmmmmmmmmmmmmmmmmmmmmmmmmmmmm|mmmmmmmmmmmmmmmmmmmmmmmmmmmmmmmmmmm|mmmmmmmmmmmmmmmmmmmmmmmmmmmmmmmmmmm|mmmmmmmmmmmmmmmmmmmmmmmmmmmmmmmmmmm"
 
--- the same of type K
+-- the longest fields of a bill whose creditor has an address of type K
 abbrev longestK : List Bytes
 longestK = putBytes 6 (times 35 (ascii "n")) (putBytes 7 (times 35 (ascii "s")) (putBytes 8 (times 35 (ascii "t")) (put 19 "999999999.99" (putBytes 30 (times 140 (ascii "m")) K))))
 
@@ -158,5 +158,5 @@ older =
     && refusesIn V22 302 16 19 (put 19 "" K)
 
 pub the-examples : T (examples && older)
-unfolding examples older fieldsAnswer fieldFindings rules latin cut breakWidth passes walk badPlace characters lineFeeds firstSuch findings first number remainder97 carry checkDigit flatten leads inX barred replaced laidFrom replacedFrom rows keptIn cutIn replacedIn beneficiary transaction remittance
+unfolding examples older fieldsAnswer fieldFindings rules latin cut breakWidth passes walk badPlace characters lineFeeds firstSuch findings first numeral remainder97 carry checkDigit flatten leads inX barred replaced laidFrom replacedFrom rows keptIn cutIn replacedIn beneficiary transaction remittance
 the-examples = tt

@@ -14,14 +14,15 @@ ghost use Prim.Native.Nat.{_+_, _≤_, _<_};
 ghost use lib.ListN.{length};
 ghost use Rattle.sieve.specs.Bytes.{within};
 ghost use Rattle.sieve.specs.Lines.{cut, linesOf};
+ghost use Rattle.sieve.specs.Places.{walkLines};
 ghost use Rattle.sieve.specs.Rules.{line};
 ghost use Rattle.swiss.specs.Forms.{amount};
 ghost use Rattle.swiss.specs.Swiss.{swissIn};
 ghost use Rattle.swift.specs.Letters.{inX};
-ghost use Rattle.swift.specs.Rowed.{Fillable, IsFilled, IsBegun, Lined, IsLineOf, IsAdded, Small, IsRows};
-ghost use Rattle.swift.specs.Paged.{Ready, IsLaid, IsPut, AllFillable, AreLaid, IsRemitted, Open, Payable, AreMade};
+ghost use Rattle.swift.specs.Rowed.{AreShort, RowFits, IsFilled, IsLineBegun, Lined, IsLineOf, IsAdded, SmallLine, IsRows};
+ghost use Rattle.swift.specs.Paged.{Ready, IsLaid, IsPut, AllFillable, AreLaid, IsRemittedOn, Open, Payable, AreMade};
 ghost use Rattle.swift.specs.Paged.{IsFollowedBy, IsTextLaid, IsLineLaid, IsReferenceLaid};
-ghost use Rattle.swift.specs.Fields.{streetText, townText, streetLine, townLine, structuredLines, addressLines};
+ghost use Rattle.swift.specs.Fields.{streetText, townText, streetLine, townLine, structuredLines, combinedAddress};
 ghost use Rattle.swift.specs.Fields.{combinedLines, beneficiary, withComma, transaction, remittance};
 ghost use Rattle.swift.specs.Answering.{IsMapped, IsMappedBill};
 
@@ -80,7 +81,7 @@ struct Filled {
 // Puts the characters of a text, from a place on, behind those of a row, until the row is full or the text ends. A full stop
 // stands for one that is outside the x set.
 fn fill(row: Row, text: &[u8], from: usize) -> Filled
-    requires { ⌜ Fillable row × (from ≤ length (now text)) ⌝ }
+    requires { ⌜ RowFits row × (from ≤ length (now text)) ⌝ }
     ensures { λ r. ⌜ IsFilled row (now (text .entry)) from r ⌝ }
 {
     let mut bytes = row.bytes;
@@ -119,8 +120,8 @@ fn fill(row: Row, text: &[u8], from: usize) -> Filled
 
 // A row that is not empty, as a line: a colon or hyphen that begins it becomes a full stop.
 fn begun(row: Row) -> Row
-    requires { ⌜ Fillable row × (0 < row .length) ⌝ }
-    ensures { λ r. ⌜ IsBegun row r ⌝ }
+    requires { ⌜ RowFits row × (0 < row .length) ⌝ }
+    ensures { λ r. ⌜ IsLineBegun row r ⌝ }
 {
     let bytes = row.bytes;
     let first = bytes[0];
@@ -141,7 +142,7 @@ struct Line {
 
 // A line with no characters.
 fn no_characters() -> Line
-    ensures { λ r. ⌜ Small r 0 × Lined r [] ⌝ }
+    ensures { λ r. ⌜ SmallLine r 0 × Lined r [] ⌝ }
 {
     let row = Row {
         bytes: [0; 35],
@@ -153,7 +154,7 @@ fn no_characters() -> Line
 
 // Puts the characters of a text behind those of a line, and counts those that find no room.
 fn add(line: Line, text: &[u8]) -> Line
-    requires { ⌜ Small line 8192 × (length (now text) ≤ 1024) ⌝ }
+    requires { ⌜ SmallLine line 8192 × (length (now text) ≤ 1024) ⌝ }
     ensures { λ r. ⌜ IsAdded line (now (text .entry)) r ⌝ }
 {
     let row = line.row;
@@ -174,7 +175,7 @@ struct Page {
 
 // Lays a row, with CR LF after it, behind what lies on the page; one with no character isn't laid.
 fn lay_row(buffer: &mut [u8], page: Page, row: Row) -> Page
-    requires { ⌜ Ready (now buffer) page × Fillable row ⌝ }
+    requires { ⌜ Ready (now buffer) page × RowFits row ⌝ }
     ensures { λ r. ⌜ IsLaid (now (buffer .entry)) page row (now (buffer .exit)) r ⌝ }
 {
     let n = row.length;
@@ -197,7 +198,7 @@ fn lay_row(buffer: &mut [u8], page: Page, row: Row) -> Page
 
 // Lays a line on the page, and counts what was cut of it.
 fn lay_line(buffer: &mut [u8], page: Page, line: Line) -> Page
-    requires { ⌜ Ready (now buffer) page × Small line 8192 × (page .cut ≤ 73728) ⌝ }
+    requires { ⌜ Ready (now buffer) page × SmallLine line 8192 × (page .cut ≤ 73728) ⌝ }
     ensures { λ r. ⌜ IsPut (now (buffer .entry)) page line (now (buffer .exit)) r ⌝ }
 {
     let row = line.row;
@@ -240,7 +241,7 @@ fn street_line(street: &[u8], number: &[u8]) -> Line
 
 // The line of country, postcode and town.
 fn town_line(country: &[u8], postcode: &[u8], town: &[u8]) -> Line
-    requires { ⌜ (length (now country) ≤ 1024) × (length (now postcode) ≤ 1024) × (length (now town) ≤ 1024) ⌝ }
+    requires { ⌜ AreShort (now country) (now postcode) (now town) ⌝ }
     ensures { λ r. ⌜ IsLineOf (townText (now (country .entry)) (now (postcode .entry)) (now (town .entry))) r 8192 ⌝ }
 {
     let line = prefixed_line(b"3/", country);
@@ -271,7 +272,7 @@ struct FourRows {
 
 // The four rows of field 70: those before row `first` hold the reference, and the message fills the others in turn.
 fn fill_rows(reference: Row, first: usize, message: &[u8]) -> FourRows
-    requires { ⌜ Fillable reference × (first ≤ 1) ⌝ }
+    requires { ⌜ RowFits reference × (first ≤ 1) ⌝ }
     ensures { λ r. ⌜ IsRows reference first (now (message .entry)) r ⌝ }
 {
     let none = no_characters();
@@ -313,8 +314,8 @@ fn lay_remittance(
     message: &[u8],
 ) -> Page
     requires { ⌜ Ready (now buffer) page × (page .lines ≤ 6) × (page .cut ≤ 73728) ⌝ }
-    requires { ⌜ Small reference 8192 × (first ≤ 1) × (length (now message) ≤ 1024) ⌝ }
-    ensures { λ r. ⌜ IsRemitted (now (buffer .entry)) page reference first (now (message .entry)) (now (buffer .exit)) r ⌝ }
+    requires { ⌜ SmallLine reference 8192 × (first ≤ 1) × (length (now message) ≤ 1024) ⌝ }
+    ensures { λ r. ⌜ IsRemittedOn buffer page reference first message r ⌝ }
 {
     let row = reference.row;
     let filled = fill_rows(row, first, message);
@@ -339,7 +340,7 @@ fn lay_reference(
     message: &[u8],
 ) -> Page
     requires { ⌜ Ready (now buffer) page × (page .lines ≤ 6) × (page .cut ≤ 73728) ⌝ }
-    requires { ⌜ (length (now kind) ≤ 1024) × (length (now reference) ≤ 1024) × (length (now message) ≤ 1024) ⌝ }
+    requires { ⌜ AreShort (now kind) (now reference) (now message) ⌝ }
     ensures { λ r. ⌜ IsReferenceLaid buffer page kind reference message r ⌝ }
 {
     if same(kind, b"NON") {
@@ -369,7 +370,7 @@ fn lay_bill_line(
     prefix: &[u8],
 ) -> Page
     requires { ⌜ Open (now buffer) page 1 × Payable (now payload) (now places) ⌝ }
-    requires { ⌜ (1 ≤ n) × (n ≤ 34) × (length (now prefix) ≤ 1024) ⌝ }
+    requires { ⌜ (1 ≤ n) × (n ≤ walkLines) × (length (now prefix) ≤ 1024) ⌝ }
     ensures { λ r. ⌜ IsLineLaid buffer page prefix payload n r ⌝ }
 {
     lay_text(buffer, page, prefix, places::line(payload, places, n))
@@ -421,7 +422,7 @@ fn lay_address_lines(
     places: &[u16; WALK_NUMBERS],
 ) -> Page
     requires { ⌜ Open (now buffer) page 2 × Payable (now payload) (now places) ⌝ }
-    ensures { λ r. ⌜ IsFollowedBy buffer page 2 addressLines payload r ⌝ }
+    ensures { λ r. ⌜ IsFollowedBy buffer page 2 combinedAddress payload r ⌝ }
 {
     let first = lay_bill_line(buffer, page, payload, places, 7, b"");
     lay_bill_line(buffer, first, payload, places, 8, b"")

@@ -13,7 +13,7 @@ use Rattle.sieve.specs.Bytes.{Bytes, ascii, same, every}
 use Rattle.sieve.specs.Decimal.{decimalIn}
 use Rattle.sieve.specs.Letters.{digit}
 use Rattle.sieve.specs.Characters.{characters}
-use Rattle.sieve.specs.Mod97.{onto, number}
+use Rattle.sieve.specs.Mod97.{onto, numeral}
 use Rattle.sieve.proofs.Bounds.{is-within, same-is}
 use Rattle.sieve.proofs.Decimals.{digit-onto, digit-byte, number-after, number-below, digits, unled, digits-of-whole, Written, digits-written, written-unled}
 use Rattle.swiss.specs.Limits.{amountMost}
@@ -48,8 +48,8 @@ module _ (w : Bytes) (c d : ℕ) where
   behind : length w + 1 ≡ length (laid w c d) - 2
   behind = omega (arith, laid-length)
 
-  laid-cents : cents (laid w c d) ≡ onto (onto (number 0 w) c) d
-  unfolding cents number
+  laid-cents : cents (laid w c d) ≡ onto (onto (numeral 0 w) c) d
+  unfolding cents numeral
   laid-cents = rw (← behind, ← point, take-at w (46 ∷ c ∷ d ∷ []) (length w) refl, drop-append-add w (46 ∷ c ∷ d ∷ []) 1) (number-after 0 w (c ∷ d ∷ []))
 
   laid-amount : amount (laid w c d)
@@ -117,8 +117,8 @@ module _ {w : Bytes} {c d : ℕ} (p : Parts w c d) where
       let behind : every digit (c ∷ d ∷ []) ≡ true = rw (p .tenths, p .hundredths) in
       omega (arith, one-each w (46 ∷ c ∷ d ∷ []) (p .whole), one-each (c ∷ d ∷ []) [] behind)
 
-  parts-cents : cents (laid w c d) ≡ 100 * number 0 w + 10 * (c - 48) + (d - 48)
-  parts-cents = omega (arith, laid-cents w c d, digit-onto (number 0 w) c (p .tenths), digit-onto (onto (number 0 w) c) d (p .hundredths))
+  parts-cents : cents (laid w c d) ≡ 100 * numeral 0 w + 10 * (c - 48) + (d - 48)
+  parts-cents = omega (arith, laid-cents w c d, digit-onto (numeral 0 w) c (p .tenths), digit-onto (onto (numeral 0 w) c) d (p .hundredths))
 
   -- what is read of an amount is written as it stood
   written-again : (k : ℕ) → length w ≤ k → written k (cents (laid w c d)) ≡ laid w c d
@@ -127,7 +127,7 @@ module _ {w : Bytes} {c d : ℕ} (p : Parts w c d) where
       let n = cents (laid w c d) in
       let (c-low, c-top) = is-within 48 57 c (p .tenths) in
       let (d-low, d-top) = is-within 48 57 d (p .hundredths) in
-      let q : n / 100 ≡ number 0 w = omega (arith, parts-cents) in
+      let q : n / 100 ≡ numeral 0 w = omega (arith, parts-cents) in
       let r : 48 + n / 10 % 10 ≡ c = omega (arith, parts-cents) in
       let u : 48 + n % 10 ≡ d = omega (arith, parts-cents) in
       rw (q, r, u, digits-of-whole w k (p .francs) h (p .whole) (p .lead))
@@ -168,8 +168,8 @@ amount-in-cents s h b =
 -- so the amount of a line 19: digits of francs, a point, and two digits of cents
 
 -- two digits behind a number
-two-behind : (n : ℕ) (t : Bytes) → length t ≡ 2 → every digit t ≡ true → number n t ≡ 100 * n + number 0 t
-unfolding number
+two-behind : (n : ℕ) (t : Bytes) → length t ≡ 2 → every digit t ≡ true → numeral n t ≡ 100 * n + numeral 0 t
+unfolding numeral
 two-behind n [] h k = absurd (omega arith)
 two-behind n (c ∷ []) h k = absurd (omega arith)
 two-behind n (c ∷ d ∷ []) h k =
@@ -183,7 +183,7 @@ pub record Due (s : Bytes) : Type 0 where
   pub short : length s ≤ amountMost
   pub whole : every digit (take (length s - 3) s) ≡ true
   pub behind : every digit (drop (length s - 2) s) ≡ true
-  pub value : cents s ≡ 100 * number 0 (take (length s - 3) s) + number 0 (drop (length s - 2) s)
+  pub value : cents s ≡ 100 * numeral 0 (take (length s - 3) s) + numeral 0 (drop (length s - 2) s)
   pub most : cents s ≤ 99999999999
 
 pub amount-due : (s : Bytes) → amount s ≡ true → characters s ≤ amountMost → Due s
@@ -200,14 +200,14 @@ amount-due s h b =
       short = omega (arith, ap length (a .is), ap characters (a .is), laid-length (a .w) (a .c) (a .d), laid-characters (a .parts));
       whole = k .1;
       behind = k .3;
-      value = number-after 0 w t ∙ two-behind (number 0 w) t two (k .3);
+      value = number-after 0 w t ∙ two-behind (numeral 0 w) t two (k .3);
       most = amount-in-cents s h b .1;
     }
 
 -- each number in this range has an amount
 
 zero-cents : cents (ascii "0.00") ≡ 0
-unfolding cents number
+unfolding cents numeral
 zero-cents = refl
 
 module _ (n : ℕ) (some : 1 ≤ n) (most : n ≤ 99999999999) where
@@ -234,15 +234,15 @@ module _ (n : ℕ) (some : 1 ≤ n) (most : n ≤ 99999999999) where
       }
 
   cents-again : cents (laid w c d) ≡ n
-  unfolding number
+  unfolding numeral
   cents-again = omega (arith, parts-cents parts, whole-written .value)
 
   not-nothing : same (laid w c d) (ascii "0.00") ≡ false
-  not-nothing = go (same (laid w c d) (ascii "0.00")) refl
+  not-nothing = by-cases (same (laid w c d) (ascii "0.00")) refl
     where
-      go : (b : Bool) → same (laid w c d) (ascii "0.00") ≡ b → b ≡ false
-      go true e = absurd (omega (arith, cents-again, ap cents (same-is (laid w c d) (ascii "0.00") e), zero-cents))
-      go false e = refl
+      by-cases : (b : Bool) → same (laid w c d) (ascii "0.00") ≡ b → b ≡ false
+      by-cases true e = absurd (omega (arith, cents-again, ap cents (same-is (laid w c d) (ascii "0.00") e), zero-cents))
+      by-cases false e = refl
 
   written-amount : (s : Bytes) × (amount s ≡ true) × (characters s ≤ amountMost) × (cents s ≡ n)
   written-amount = (

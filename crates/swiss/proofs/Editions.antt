@@ -15,7 +15,7 @@ use Rattle.sieve.specs.Places.{placesOf, listSize, innerOf}
 use Rattle.sieve.specs.Reading.{noRoom, readOnto, readAnswer}
 use Rattle.sieve.specs.Writing.{handed, writeFindings, laidOnto, writeAnswer}
 use Rattle.sieve.specs.Rules.{Rule, When, line, noText, isEmpty, never}
-use Rattle.sieve.specs.Verdict.{Refusal, under, accepted, found, aboutLines, findings, first, settled, verdict}
+use Rattle.sieve.specs.Verdict.{Refusal, under, accepted, found, aboutLines, findings, first, decided, verdict}
 use Rattle.sieve.specs.Keeps.{Keeps}
 use Rattle.sieve.proofs.Accepts.{read-back}
 use Rattle.sieve.proofs.Bounds.{same-is}
@@ -31,11 +31,11 @@ use Rattle.swiss.proofs.DemandThree.{edition-demand-three}
 -- a line that is empty or S is not K
 pub not-combined : (l : Bytes) → (not (noText l) && not (same l (ascii structured))) ≡ false → same l (ascii combined) ≡ false
 not-combined [] h = refl
-not-combined (x ∷ l) h = go (same (x ∷ l) (ascii structured)) refl (rw (eqb·suc-zero (length l)) at h)
+not-combined (x ∷ l) h = by-cases (same (x ∷ l) (ascii structured)) refl (rw (eqb·suc-zero (length l)) at h)
   where
-    go : (b : Bool) → same (x ∷ l) (ascii structured) ≡ b → not b ≡ false → same (x ∷ l) (ascii combined) ≡ false
-    go true e h = ap (λ (s : Bytes). same s (ascii combined)) (same-is (x ∷ l) (ascii structured) e)
-    go false e h = absurd (true≢false h)
+    by-cases : (b : Bool) → same (x ∷ l) (ascii structured) ≡ b → not b ≡ false → same (x ∷ l) (ascii combined) ≡ false
+    by-cases true e h = ap (λ (s : Bytes). same s (ascii combined)) (same-is (x ∷ l) (ascii structured) e)
+    by-cases false e h = absurd (true≢false h)
 
 module _ (ls : List Bytes) where
   -- no rule of the list is broken
@@ -114,24 +114,24 @@ module _ (p : Bytes) (n : ℕ) (k : Break) (h : verdict swiss p ≡ accepted n k
   accepted-in-both =
       let settles = sym (verdict-is (swissIn V24) p) ∙ h in
       let nothing = settled-accepts (billOf p) (first (findings (swissIn V24) p)) settles .0 in
-      verdict-is (swissIn V22) p ∙ ap (settled (billOf p)) (nothing-in-both p nothing ∙ sym nothing) ∙ settles
+      verdict-is (swissIn V22) p ∙ ap (decided (billOf p)) (nothing-in-both p nothing ∙ sym nothing) ∙ settles
 
   -- and the reader answers the same in both, and leaves the same list
   pub read-in-both : (list : List ℕ) → readAnswer (swissIn V22) p list ≡ readAnswer swiss p list
   unfolding swiss readAnswer placesOf
-  read-in-both list = rw (accepted-in-both, h) (go (noRoom (length list) (listSize swiss)))
+  read-in-both list = rw (accepted-in-both, h) (by-cases (noRoom (length list) (listSize swiss)))
     where
-      go : (o : Option Refusal) → readOnto (swissIn V22) p list (accepted n k) o ≡ readOnto swiss p list (accepted n k) o
-      go none = refl
-      go (some r) = refl
+      by-cases : (o : Option Refusal) → readOnto (swissIn V22) p list (accepted n k) o ≡ readOnto swiss p list (accepted n k) o
+      by-cases none = refl
+      by-cases (some r) = refl
 
 -- a bill that keeps 2.4 keeps 2.2
 pub keeps-both : (b : Bill) → Keeps swiss b → Keeps (swissIn V22) b
 unfolding swiss
 keeps-both b h =
     let back = read-back (swissIn V24) (λ ls. lawful) (lit≤ tt) b h in
-    let is = edition-demand-three V24 .accepts .complete b h in
-    accepted-keeps (swissIn V22) (λ ls. lawful) (lit≤ tt) b (length (b .lines)) (b .break) back (accepted-in-both (written b) _ _ is)
+    let accepted-in-24 = edition-demand-three V24 .accepts .complete b h in
+    accepted-keeps (swissIn V22) (λ ls. lawful) (lit≤ tt) b (length (b .lines)) (b .break) back (accepted-in-both (written b) _ _ accepted-in-24)
 
 -- what is laid, was laid with nothing found
 laid-clean : (bytes dest : Bytes) (o : Option Refusal) (n : ℕ) → laidOnto bytes dest o .answer ≡ laid n → o ≡ none

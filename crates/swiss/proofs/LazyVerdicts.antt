@@ -11,7 +11,7 @@ use Rattle.sieve.specs.Characters.{breakWidth, passes, walk, badPlace, characte
 use Rattle.sieve.specs.Verdict.{Refusal, under, accepted, refused, findings, first, verdict}
 use Rattle.sieve.specs.Demand.{AcceptsExactly, RefusesEarliest}
 use Rattle.sieve.specs.Latin.{latin}
-use Rattle.sieve.specs.Mod97.{number, remainder97}
+use Rattle.sieve.specs.Mod97.{numeral, remainder97}
 use Rattle.sieve.specs.Mod10.{carry, checkDigit}
 use Rattle.sieve.specs.Cases.{lines, put}
 use Rattle.sieve.proofs.LazyVerdicts as any
@@ -22,7 +22,7 @@ use Rattle.swiss.proofs.DemandThree.{swiss-demand-three}
 
 -- an empty line more; CR LF; no currency, and wrong check digits in the reference
 telling : Telling swiss
-unfolding verdict swiss rules latin billOf cut breakWidth passes walk badPlace characters lineFeeds firstSuch findings first number remainder97 carry checkDigit flatten
+unfolding verdict swiss rules latin billOf cut breakWidth passes walk badPlace characters lineFeeds firstSuch findings first numeral remainder97 carry checkDigit flatten
 telling =
     record {
       with-lf = joined Lf (B ++ lines "");

@@ -6,7 +6,7 @@ use lib.ListN.{getD, take, drop, length}
 use Rattle.sieve.specs.Bytes.{Bytes, ascii, within, same, every}
 use Rattle.sieve.specs.Letters.{digit, capital, digitOrCapital, alphanumeric}
 use Rattle.swiss.specs.Limits.{ibanLength, qrrLength, scorFewest, scorMost, switzerland, liechtenstein, creditorMark, billingMark, nothingDue, firstQrIid, lastQrIid}
-use Rattle.sieve.specs.Mod97.{number}
+use Rattle.sieve.specs.Mod97.{numeral}
 
 -- CH or LI
 abbrev pub ibanCountry : Bytes → Bool
@@ -18,7 +18,7 @@ iban s = eqb (length s) ibanLength && ibanCountry (take 2 s) && every digit (tak
 
 -- an IBAN whose IID makes it a QR-IBAN
 abbrev pub qrIban : Bytes → Bool
-qrIban s = within firstQrIid lastQrIid (number 0 (take 5 (drop 4 s)))
+qrIban s = within firstQrIid lastQrIid (numeral 0 (take 5 (drop 4 s)))
 
 -- two letters A-Z
 abbrev pub country : Bytes → Bool

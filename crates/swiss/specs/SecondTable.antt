@@ -9,7 +9,7 @@ use Rattle.sieve.specs.Lines.{cut, billOf}
 use Rattle.sieve.specs.Characters.{breakWidth, passes, walk, badPlace, characters, lineFeeds}
 use Rattle.sieve.specs.Verdict.{under, underAt, accepted, refused, findings, first, verdict}
 use Rattle.sieve.specs.Latin.{latin}
-use Rattle.sieve.specs.Mod97.{number, remainder97}
+use Rattle.sieve.specs.Mod97.{numeral, remainder97}
 use Rattle.sieve.specs.Mod10.{carry, checkDigit}
 use Rattle.swiss.specs.Swiss.{rules, swiss}
 use Rattle.sieve.specs.Cases.{lines, put, putBytes, times, upFrom, each, letter, umlaut, ends, euro, Case, case, right}
@@ -620,5 +620,5 @@ second =
     ∷ []
 
 pub the-second-table : T (right swiss second)
-unfolding second right verdict swiss rules latin billOf cut breakWidth passes walk badPlace characters lineFeeds firstSuch findings first number remainder97 carry checkDigit flatten
+unfolding second right verdict swiss rules latin billOf cut breakWidth passes walk badPlace characters lineFeeds firstSuch findings first numeral remainder97 carry checkDigit flatten
 the-second-table = tt

@@ -45,11 +45,11 @@ module _ (ls : List Bytes) where
   -- a line that must be empty, and what is found once it is
   once-empty : (n : ℕ) (rs ss : List Rule) → (isEmpty n ls ≡ true → finds rs ls ≡ finds ss ls) → finds (empty n always ∷ rs) ls ≡ finds (empty n always ∷ ss) ls
   unfolding finds first
-  once-empty n rs ss h = go (isEmpty n ls) refl h
+  once-empty n rs ss h = by-cases (isEmpty n ls) refl h
     where
-      go : (b : Bool) → isEmpty n ls ≡ b → (b ≡ true → finds rs ls ≡ finds ss ls) → finds (empty n always ∷ rs) ls ≡ finds (empty n always ∷ ss) ls
-      go true e h = rw (e, finds, first) (h refl)
-      go false e h = rw (e, finds, first)
+      by-cases : (b : Bool) → isEmpty n ls ≡ b → (b ≡ true → finds rs ls ≡ finds ss ls) → finds (empty n always ∷ rs) ls ≡ finds (empty n always ∷ ss) ls
+      by-cases true e h = rw (e, finds, first) (h refl)
+      by-cases false e h = rw (e, finds, first)
 
   -- no text of such a line is too long
   closed : (n most : ℕ) (rs ss : List Rule) → finds rs ls ≡ finds ss ls → finds (empty n always ∷ atMost most n ∷ rs) ls ≡ finds (empty n always ∷ ss) ls
@@ -59,11 +59,11 @@ module _ (ls : List Bytes) where
   same-behind : (rs ss ts : List Rule) → finds ss ls ≡ finds ts ls → finds (rs ++ ss) ls ≡ finds (rs ++ ts) ls
   unfolding finds first
   same-behind [] ss ts h = h
-  same-behind (r ∷ rs) ss ts h = go (r .broken ls) refl (same-behind rs ss ts h)
+  same-behind (r ∷ rs) ss ts h = by-cases (r .broken ls) refl (same-behind rs ss ts h)
     where
-      go : (b : Bool) → r .broken ls ≡ b → finds (rs ++ ss) ls ≡ finds (rs ++ ts) ls → finds (r ∷ rs ++ ss) ls ≡ finds (r ∷ rs ++ ts) ls
-      go true e ih = rw (e, finds, first)
-      go false e ih = rw (e, finds, first) ih
+      by-cases : (b : Bool) → r .broken ls ≡ b → finds (rs ++ ss) ls ≡ finds (rs ++ ts) ls → finds (r ∷ rs ++ ss) ls ≡ finds (r ∷ rs ++ ts) ls
+      by-cases true e ih = rw (e, finds, first)
+      by-cases false e ih = rw (e, finds, first) ih
 
   module _ (n : ℕ) where
     -- what is asked of an address that is absent, once its first line is empty
@@ -114,28 +114,28 @@ module _ (ls : List Bytes) where
         -- where it is not of type K, the editions ask the same
         pub alike : isCombined e n ls ≡ false → finds (address V24 n absent) ls ≡ finds (address e n absent) ls
         unfolding finds first
-        alike = go e
+        alike = by-cases e
           where
-            go : (e : Edition) → isCombined e n ls ≡ false → finds (address V24 n absent) ls ≡ finds (address e n absent) ls
-            go V22 k = rw k
-            go V24 k = refl
+            by-cases : (e : Edition) → isCombined e n ls ≡ false → finds (address V24 n absent) ls ≡ finds (address e n absent) ls
+            by-cases V22 k = rw k
+            by-cases V24 k = refl
 
         -- what 2.4 takes is not of type K
         pub not-of-K : finds (address V24 n absent) ls .number ≡ 0 → isCombined e n ls ≡ false
         unfolding numbered
-        not-of-K h = go e (not-combined (line n ls) (found-none _ _ (each-none (map (aboutLines ls) (address V24 n absent)) (found-nothing ls (address V24 n absent) refl h) 1)))
+        not-of-K h = by-cases e (not-combined (line n ls) (found-none _ _ (each-none (map (aboutLines ls) (address V24 n absent)) (found-nothing ls (address V24 n absent) refl h) 1)))
           where
-            go : (e : Edition) → is n combined ls ≡ false → isCombined e n ls ≡ false
-            go V22 k = k
-            go V24 k = refl
+            by-cases : (e : Edition) → is n combined ls ≡ false → isCombined e n ls ≡ false
+            by-cases V22 k = k
+            by-cases V24 k = refl
 
         -- the type K is no empty line
         filled-by-K : isCombined e n ls ≡ true → isEmpty n ls ≡ false
-        filled-by-K = go e
+        filled-by-K = by-cases e
           where
-            go : (e : Edition) → isCombined e n ls ≡ true → isEmpty n ls ≡ false
-            go V22 k = ap noText (same-is (line n ls) (ascii combined) k)
-            go V24 k = absurd (false≢true k)
+            by-cases : (e : Edition) → isCombined e n ls ≡ true → isEmpty n ls ≡ false
+            by-cases V22 k = ap noText (same-is (line n ls) (ascii combined) k)
+            by-cases V24 k = absurd (false≢true k)
 
         combined-asked : absent ls ≡ false → isCombined e n ls ≡ true → finds (addressLines n ++ told) ls ≡ finds (address e n absent) ls
         unfolding finds first

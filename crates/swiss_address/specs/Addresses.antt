@@ -12,12 +12,12 @@ use Rattle.sieve.specs.Rules.{Rule, When, noText, isEmpty, is, has, always}
 use Rattle.swiss.specs.Forms.{country}
 use Rattle.swiss.specs.Limits.{nameMost, streetMost, houseNumberMost, addressLineMost, postcodeMost, townMost, structured}
 use Rattle.findings.specs.declared.Finding.{Finding}
-use Rattle.findings.specs.Findings.{small, after}
+use Rattle.findings.specs.Findings.{asFinding, thenRule}
 use Rattle.places.specs.Listed.{listed}
 
 -- what is found in a line of at most so many characters, which is not empty when that is asked
 abbrev pub textFound : Bytes → ℕ → Bool → ℕ → Finding
-textFound l n when most = after (after (small none) (when && noText l) 8 n) (ltb most (characters l)) 9 n
+textFound l n when most = thenRule (thenRule (asFinding none) (when && noText l) 8 n) (ltb most (characters l)) 9 n
 
 -- the places are those of a payload's lines, and there is room for seven from line n on
 abbrev pub SevenFrom : Bytes → List ℕ → ℕ → Type 0

@@ -1,1 +1,3 @@
+pub mod Digits
+pub mod Letters
 pub mod OneAnswer

@@ -23,3 +23,9 @@ one-qrr κs a x y v w h k = (h ∙ sym k, refl)
 
 pub one-scor : OneAnswer fn.scor.ended fn.scor.Reads.Learnt
 one-scor κs a x y v w h k = (h ∙ sym k, refl)
+
+pub one-iban-right : OneAnswer fn.iban_right.ended fn.iban_right.Reads.Learnt
+one-iban-right κs a x y v w h k = (h ∙ sym k, refl)
+
+pub one-scor-right : OneAnswer fn.scor_right.ended fn.scor_right.Reads.Learnt
+one-scor-right κs a x y v w h k = (h ∙ sym k, refl)

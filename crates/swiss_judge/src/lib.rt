@@ -39,7 +39,7 @@ pub fn verdict_in(payload: &[u8], edition: Edition) -> Answer
     judge_in(payload, &mut places, edition)
 }
 
-// The same of edition 2.4.
+// The verdict on any bytes under edition 2.4, with the places of the lines of what it accepts.
 pub fn judge(payload: &[u8], places: &mut [u16; WALK_NUMBERS]) -> Answer
     ensures { λ r. ⌜ IsJudged swiss (now (payload .entry)) r (now (places .exit)) ⌝ }
 {

@@ -30,8 +30,8 @@ module _ (kind l : Bytes) where
 
   pub unknown : same kind (ascii creditorReference) ≡ false → same kind (ascii qrReference) ≡ false → same kind (ascii noReference) ≡ false → finds (filled 28 always ∷ formed 28 never ∷ []) (from 28 (kind ∷ l ∷ [])) ≡ finds reference (from 28 (kind ∷ l ∷ []))
   unfolding finds first
-  unknown a b c = go (noText kind) refl
+  unknown a b c = by-cases (noText kind) refl
     where
-      go : (d : Bool) → noText kind ≡ d → finds (filled 28 always ∷ formed 28 never ∷ []) (from 28 (kind ∷ l ∷ [])) ≡ finds reference (from 28 (kind ∷ l ∷ []))
-      go true e = rw (e, finds, first)
-      go false e = rw (e, e, b, a, c, finds, first)
+      by-cases : (d : Bool) → noText kind ≡ d → finds (filled 28 always ∷ formed 28 never ∷ []) (from 28 (kind ∷ l ∷ [])) ≡ finds reference (from 28 (kind ∷ l ∷ []))
+      by-cases true e = rw (e, finds, first)
+      by-cases false e = rw (e, e, b, a, c, finds, first)

@@ -11,11 +11,11 @@ use Rattle.sieve.specs.Rules.{Rule, noText, isEmpty, has, always, never}
 use Rattle.swiss.specs.declared.Edition.{Edition}
 use Rattle.swiss.specs.Swiss.{header, account, address, reserved, payment, reference, information, procedures, pairing, together}
 use Rattle.findings.specs.declared.Finding.{Finding}
-use Rattle.findings.specs.Findings.{small, after}
+use Rattle.findings.specs.Findings.{asFinding, thenRule}
 
 -- what is found in a line that must be filled, of its form and with right check digits
 abbrev pub numberFound : Bytes → ℕ → Bool → Bool → Finding
-numberFound l n form check = after (after (after (small none) (noText l) 8 n) (not (noText l) && not form) 10 n) (not check) 11 n
+numberFound l n form check = thenRule (thenRule (thenRule (asFinding none) (noText l) 8 n) (not (noText l) && not form) 10 n) (not check) 11 n
 
 -- the reference on line 29, of a form and with check digits
 abbrev pub referenceOf : (Bytes → Bool) → (Bytes → Bool) → List Rule

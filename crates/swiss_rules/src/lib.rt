@@ -1,6 +1,5 @@
 // The rules about a bill's lines, group by group of lines, in the order of the sieve. A group takes the lines that it is
 // about; those of seven lines are `swiss_address`'s. Once a rule is broken, later groups are left out.
-use digits::checks97;
 use findings::Finding;
 use findings::KEPT;
 use findings::at_most;
@@ -11,6 +10,7 @@ use findings::fixed;
 use findings::formed;
 use findings::rule;
 use mod10::checks10;
+use mod97::checks97;
 use places::line;
 use runs::longer_together;
 use runs::same;
@@ -46,7 +46,7 @@ pub fn header(kind: &[u8], version: &[u8], coding: &[u8]) -> Finding
 }
 
 // The number on line n, an account's or a reference's: not empty, of its form and with right check digits.
-fn number(l: &[u8], n: usize, form: bool, check: bool) -> Finding
+fn number_found(l: &[u8], n: usize, form: bool, check: bool) -> Finding
     ensures { λ r. ⌜ r ≡ numberFound (now (l .entry)) n form check ⌝ }
 {
     let f = filled(KEPT, l, n, true);
@@ -58,10 +58,10 @@ fn number(l: &[u8], n: usize, form: bool, check: bool) -> Finding
 pub fn account(l: &[u8]) -> Finding
     ensures { λ r. ⌜ r ≡ finds account (from 4 (now (l .entry) ∷ [])) ⌝ }
 {
-    if swiss_digits::iban_right(l) {
+    if swiss_forms::iban_right(l) {
         return KEPT;
     }
-    number(l, 4, swiss_forms::iban(l), checks97(l))
+    number_found(l, 4, swiss_forms::iban(l), checks97(l))
 }
 
 // Lines 19 and 20.
@@ -85,17 +85,17 @@ fn payment(amount: &[u8], currency: &[u8]) -> Finding
 fn qr_reference(l: &[u8]) -> Finding
     ensures { λ r. ⌜ r ≡ finds (referenceOf qrr checks10) (from 29 (now (l .entry) ∷ [])) ⌝ }
 {
-    number(l, 29, swiss_forms::qrr(l), checks10(l))
+    number_found(l, 29, swiss_forms::qrr(l), checks10(l))
 }
 
 // Line 29 under SCOR. Most references have digits alone, and are right.
 fn creditor_reference(l: &[u8]) -> Finding
     ensures { λ r. ⌜ r ≡ finds (referenceOf scor checks97) (from 29 (now (l .entry) ∷ [])) ⌝ }
 {
-    if swiss_digits::scor_right(l) {
+    if swiss_forms::scor_right(l) {
         return KEPT;
     }
-    number(l, 29, swiss_forms::scor(l), checks97(l))
+    number_found(l, 29, swiss_forms::scor(l), checks97(l))
 }
 
 // Lines 28 and 29.

@@ -9,8 +9,8 @@ use borrow.Author.Tests.{ne-eqb}
 use Rattle.sieve.specs.Bytes.{Bytes}
 use Rattle.sieve.specs.Lines.{cut}
 use Rattle.sieve.specs.Characters.{breakWidth}
-use Rattle.text.specs.declared.LineAt.{LineAt}
-use Rattle.text.specs.Results.{IsLineAt}
+use Rattle.lines.specs.declared.LineAt.{LineAt}
+use Rattle.lines.specs.Results.{IsLineAt}
 use Rattle.viewer.specs.View.{past, nextFrom, lineFrom}
 
 -- at the end and past it there is no byte

@@ -1,7 +1,7 @@
 // A viewer: it keeps hold of a payload, and hands out line after line.
+use lines::line_at;
 use sieve::Answer;
 use swiss_judge::verdict;
-use text::line_at;
 ghost use mathlib.Core.Path.{_≡_};
 ghost use Rattle.viewer.specs.View.{isDone, nextFrom, standing};
 ghost use Rattle.viewer.specs.Held.{IsBegun, IsOpened, IsLine, IsNext};

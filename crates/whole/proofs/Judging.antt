@@ -8,6 +8,7 @@ use mathlib.Core.Path.{_≡_, refl, sym, ap, _∙_}
 use lib.Dec.{leb}
 use lib.ListN.{length, replicate}
 use borrow.Author.Tests.{ltb-false, le-leb}
+use Rattle.sieve.specs.Places.{walkNumbers}
 use Rattle.sieve.specs.declared.Answer.{Answer}
 use Rattle.sieve.specs.declared.Answer.the-variants.{Accepted, Refused}
 use Rattle.sieve.specs.declared.Break.{Break}
@@ -17,15 +18,15 @@ use Rattle.sieve.specs.Characters.{Width}
 use Rattle.sieve.specs.Lines.{cut, linesOf, billOf}
 use Rattle.sieve.specs.Paper.{paperFault, paper}
 use Rattle.sieve.specs.Rules.{Rule, Layout}
-use Rattle.sieve.specs.Verdict.{Verdict, accepted, refused, findings, first, settled, verdict}
-use Rattle.sieve.specs.Whole.{plain, bare, limitsOf}
+use Rattle.sieve.specs.Verdict.{Verdict, accepted, refused, findings, first, decided, verdict}
+use Rattle.sieve.specs.Whole.{limited, bare, limitsOf}
 use Rattle.sieve.proofs.Findings.{found-none, settled-accepts, verdict-is, clear}
 use Rattle.sieve.proofs.Stages.{withMore, inLines, before-refused, more-kept, more-broken}
-use Rattle.places.specs.Listed.{room, greatest, listed}
+use Rattle.places.specs.Listed.{greatest, listed}
 use Rattle.places.proofs.Listed.{listed-length}
 use Rattle.whole.specs.Judged.{judgedPlaces, IsJudged}
 
-found-alike : (L : Layout) (p : Bytes) (w : Width) → L .width (linesOf (cut p)) ≡ w → first (findings (plain (limitsOf L) w) p) ≡ first (findings (bare L) p)
+found-alike : (L : Layout) (p : Bytes) (w : Width) → L .width (linesOf (cut p)) ≡ w → first (findings (limited (limitsOf L) w) p) ≡ first (findings (bare L) p)
 unfolding findings
 found-alike L p w e = rw e
 
@@ -44,7 +45,7 @@ module _ (L : Layout) (rs : List Rule) (p : Bytes) where
     pub kept : first (inLines rs p) ≡ none → IsJudged (withMore L rs) p (Accepted n k) places
     kept nothing = judged _ p (more-kept L rs p n k (sym (is .answer)) nothing) (is .places ∙ sym (ap (judgedPlaces p) (is .answer)))
 
-    pub broken : {r : Answer} {after : List ℕ} (f : Fault) → first (inLines rs p) ≡ some (paperFault f) → r ≡ Refused f → after ≡ replicate room 0 → IsJudged (withMore L rs) p r after
+    pub broken : {r : Answer} {after : List ℕ} (f : Fault) → first (inLines rs p) ≡ some (paperFault f) → r ≡ Refused f → after ≡ replicate walkNumbers 0 → IsJudged (withMore L rs) p r after
     broken f found same gone = rw same (judged _ p (more-broken L rs p n k (sym (is .answer)) (paperFault f) found) gone)
 
 -- of what is accepted, the list has the places of the lines, and the count is theirs
@@ -56,19 +57,19 @@ counted L p is few =
     (is .places ∙ sym (ap (judgedPlaces p) (is .answer)) ∙ rw (le-leb (length p) greatest (omega arith)), sym (accepted-is .1))
 
 -- the characters that a payload's lines choose serve as the layout's own: no other lines are asked
-pub by-its-lines : (L : Layout) (p : Bytes) (w : Width) → L .width (linesOf (cut p)) ≡ w → {r : Answer} {after : List ℕ} → IsJudged (plain (limitsOf L) w) p r after → IsJudged (bare L) p r after
+pub by-its-lines : (L : Layout) (p : Bytes) (w : Width) → L .width (linesOf (cut p)) ≡ w → {r : Answer} {after : List ℕ} → IsJudged (limited (limitsOf L) w) p r after → IsJudged (bare L) p r after
 by-its-lines L p w e is =
-    let same : verdict (plain (limitsOf L) w) p ≡ verdict (bare L) p = verdict-is _ p ∙ ap (settled (billOf p)) (found-alike L p w e) ∙ sym (verdict-is (bare L) p) in
+    let same : verdict (limited (limitsOf L) w) p ≡ verdict (bare L) p = verdict-is _ p ∙ ap (decided (billOf p)) (found-alike L p w e) ∙ sym (verdict-is (bare L) p) in
     record { answer = is .answer ∙ same; places = is .places ∙ ap (judgedPlaces p) same }
 
 -- the list stays as long as it is
-pub judged-length : {L : Layout} {p : Bytes} {r : Answer} {after : List ℕ} → IsJudged L p r after → length after ≡ room
-judged-length {L} {p} is = rw (is .places) (go (verdict L p))
+pub judged-length : {L : Layout} {p : Bytes} {r : Answer} {after : List ℕ} → IsJudged L p r after → length after ≡ walkNumbers
+judged-length {L} {p} is = rw (is .places) (by-cases (verdict L p))
   where
-    short : (b : Bool) → length (cond b (listed p) (replicate room 0)) ≡ room
+    short : (b : Bool) → length (cond b (listed p) (replicate walkNumbers 0)) ≡ walkNumbers
     short true = listed-length p
     short false = refl
 
-    go : (v : Verdict) → length (judgedPlaces p v) ≡ room
-    go (accepted n k) = short (leb (length p) greatest)
-    go (refused r) = refl
+    by-cases : (v : Verdict) → length (judgedPlaces p v) ≡ walkNumbers
+    by-cases (accepted n k) = short (leb (length p) greatest)
+    by-cases (refused r) = refl

@@ -1,24 +1,24 @@
 // Rules 1 to 5, over a whole payload, for every layout: its bytes, its characters, its breaks and its lines.
-use breaks::Parted;
-use lines::Walked;
-use lines::walk;
+use lines::Parted;
 use places::clear;
 use sieve::Answer;
 use sieve::Charset;
 use sieve::Fault;
 use sieve::Limits;
 use sieve::WALK_NUMBERS;
+use walk::Walked;
+use walk::walk;
 ghost use mathlib.Core.Path.{_≡_};
 ghost use lib.ListN.{replicate};
+ghost use Rattle.sieve.specs.Places.{walkNumbers};
 ghost use Rattle.sieve.specs.Charsets.{ofSet};
-ghost use Rattle.sieve.specs.Whole.{plain};
-ghost use Rattle.places.specs.Listed.{room};
+ghost use Rattle.sieve.specs.Whole.{limited};
 ghost use Rattle.whole.specs.Judged.{IsJudged, IsParted};
 
 // A refusal leaves no places in the list.
 fn refuse(places: &mut [u16; WALK_NUMBERS], fault: Fault) -> Answer
     ensures { λ r. ⌜ r ≡ Answer.Refused fault ⌝ }
-    ensures { λ _. ⌜ now (places .exit) ≡ replicate room 0 ⌝ }
+    ensures { λ _. ⌜ now (places .exit) ≡ replicate walkNumbers 0 ⌝ }
 {
     clear(places);
     Answer::Refused(fault)
@@ -32,8 +32,8 @@ fn judge_breaks(
     set: Charset,
     places: &mut [u16; WALK_NUMBERS],
 ) -> Answer
-    requires { ⌜ IsParted (plain limits (ofSet set)) (now payload) parted (now places) ⌝ }
-    ensures { λ r. ⌜ IsJudged (plain limits (ofSet set)) (now (payload .entry)) r (now (places .exit)) ⌝ }
+    requires { ⌜ IsParted (limited limits (ofSet set)) (now payload) parted (now places) ⌝ }
+    ensures { λ r. ⌜ IsJudged (limited limits (ofSet set)) (now (payload .entry)) r (now (places .exit)) ⌝ }
 {
     match parted {
         Parted::Unlike(i) => refuse(places, Fault::MixedBreaks(i)),
@@ -54,7 +54,7 @@ pub fn whole(
     set: Charset,
     places: &mut [u16; WALK_NUMBERS],
 ) -> Answer
-    ensures { λ r. ⌜ IsJudged (plain limits (ofSet set)) (now (payload .entry)) r (now (places .exit)) ⌝ }
+    ensures { λ r. ⌜ IsJudged (limited limits (ofSet set)) (now (payload .entry)) r (now (places .exit)) ⌝ }
 {
     if payload.len() == 0 {
         return refuse(places, Fault::NoBytes);

@@ -32,9 +32,9 @@ use Rattle.worth.proofs.Payloads.{accepted-bill, asFound, told}
 use Rattle.worth.proofs.InPlace.{changed-in-line, swapped-in-line}
 use Rattle.worth.proofs.LineRules.{kept-4, kept-29, other-4, other-29}
 
-settled : (n : ℕ) (k : Break) (b : Bool) (r : Refusal) → asFound n k (cond b none (some r)) ≡ cond b (accepted n k) (refused r)
-settled n k true r = refl
-settled n k false r = refl
+by-test : (n : ℕ) (k : Break) (b : Bool) (r : Refusal) → asFound n k (cond b none (some r)) ≡ cond b (accepted n k) (refused r)
+by-test n k true r = refl
+by-test n k false r = refl
 
 module _ (p : Bytes) (n : ℕ) (k : Break) (h : Accepted p n k) where
   unbroken : Unbroken (rules V24) (billOf p .lines)
@@ -77,7 +77,7 @@ module _ (p : Bytes) (n : ℕ) (k : Break) (h : Accepted p n k) where
       → verdict swiss (joined (billOf p .break) (set (billOf p .lines) 3 t)) ≡ cond (passesIban t) (accepted n k) (refusedAt 4 (iban t))
   other-iban t c l iid =
       told p n k h 3 t (plain-text t c) (l ∙ sym long-iban) _ (other-4 (billOf p .lines) enough unbroken t (omega arith) iid)
-      ∙ settled n k (passesIban t) (under (cond (iban t) 11 10) 4)
+      ∙ by-test n k (passesIban t) (under (cond (iban t) 11 10) 4)
 
   module _ (q : UnderQrr p) where
     passing-qrr : passesQrr (lineIn 29 p) ≡ true
@@ -87,7 +87,7 @@ module _ (p : Bytes) (n : ℕ) (k : Break) (h : Accepted p n k) where
     other-qrr : (t : Bytes) → every inOne t ≡ true → length t ≡ 27 → verdict swiss (joined (billOf p .break) (set (billOf p .lines) 28 t)) ≡ cond (passesQrr t) (accepted n k) (refusedAt 29 (qrr t))
     other-qrr t c l =
         told p n k h 28 t (plain-text t c) (l ∙ sym (passed (lineIn 29 p) passing-qrr .0)) _ (other-29 (billOf p .lines) enough unbroken t (omega arith) q)
-        ∙ settled n k (passesQrr t) (under (cond (qrr t) 11 10) 29)
+        ∙ by-test n k (passesQrr t) (under (cond (qrr t) 11 10) 29)
 
 pub qrr-changed-in : QrrChangedIn
 qrr-changed-in p n k i y h q b o d =

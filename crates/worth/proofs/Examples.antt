@@ -14,7 +14,7 @@ use Rattle.sieve.specs.Latin.{latin}
 use Rattle.sieve.specs.Cases.{put, Case, case, right}
 use Rattle.swiss.specs.Base.{B}
 use Rattle.swiss.specs.Swiss.{rules, swiss}
-use Rattle.sieve.specs.Mod97.{number, remainder97}
+use Rattle.sieve.specs.Mod97.{numeral, remainder97}
 use Rattle.sieve.specs.Mod10.{carry, checkDigit}
 use Rattle.worth.specs.Slips.{changed, swapped}
 use Rattle.worth.specs.Worth.{passesQrr, passesIban}
@@ -32,12 +32,12 @@ qrr-example = refl
 
 -- 1 and B
 iban-example : (passesIban (ascii "CH24007621B2M3X000000") && passesIban (swapped 9 (ascii "CH24007621B2M3X000000"))) ≡ true
-unfolding number remainder97
+unfolding numeral remainder97
 iban-example = refl
 
 -- and a digit changed to a letter: Z for 3 at the thirteenth character
 kinds-example : (passesIban (ascii "CH2700762092356584575") && passesIban (changed 12 90 (ascii "CH2700762092356584575"))) ≡ true
-unfolding number remainder97
+unfolding numeral remainder97
 kinds-example = refl
 
 -- the slips themselves
@@ -78,5 +78,5 @@ in-bills =
     ∷ []
 
 the-bills : T (right swiss in-bills)
-unfolding in-bills right verdict swiss rules latin billOf cut breakWidth passes walk badPlace characters lineFeeds firstSuch findings first number remainder97 carry checkDigit flatten
+unfolding in-bills right verdict swiss rules latin billOf cut breakWidth passes walk badPlace characters lineFeeds firstSuch findings first numeral remainder97 carry checkDigit flatten
 the-bills = tt

@@ -11,15 +11,15 @@ use lib.Seq.{take-append-le, drop-append-le}
 use borrow.Author.Tests.{eqb-true, eq-eqb, ne-eqb, leb-true, leb-false, le-leb}
 use Rattle.sieve.specs.Bytes.{Bytes, within}
 use Rattle.sieve.specs.Letters.{digit, capital, digitOrCapital}
-use Rattle.sieve.specs.Mod97.{value, number, remainder97, pair, checks97}
+use Rattle.sieve.specs.Mod97.{value, numeral, remainder97, pair, checks97}
 use Rattle.swiss.specs.Forms.{iban}
 use Rattle.sieve.proofs.Alphabets.{alike}
 use Rattle.sieve.proofs.Bounds.{is-within}
-use Rattle.digits.proofs.Values.{value-small}
-use Rattle.digits.proofs.Remainders.{one-changed}
+use Rattle.mod97.proofs.Values.{value-small}
+use Rattle.mod97.proofs.Remainders.{one-changed}
 use Rattle.worth.specs.Slips.{sameDigits}
 use Rattle.worth.specs.Worth.{passesIban}
-use Rattle.numbers.proofs.Texts.{all3}
+use Rattle.making.proofs.Texts.{all3}
 use Rattle.worth.proofs.Tests.{one-of, other, never}
 use Rattle.worth.proofs.Tables.{agree, agreed}
 use Rattle.worth.proofs.Weights.{weighed, two, two-swapped}
@@ -51,17 +51,17 @@ digits-told : agree 91 (on36 (λ x y. digit x && digit y && sameDigits x y)) (on
 digits-told = refl
 
 -- the first four characters, moved behind the others
-moved : (a t : Bytes) → 4 ≤ length a → remainder97 (a ++ t) ≡ number 0 (drop 4 a ++ (t ++ take 4 a)) % 97
+moved : (a t : Bytes) → 4 ≤ length a → remainder97 (a ++ t) ≡ numeral 0 (drop 4 a ++ (t ++ take 4 a)) % 97
 unfolding remainder97
 moved a t h = rw (drop-append-le 4 a t h, take-append-le 4 a t h, append-assoc (drop 4 a) t (take 4 a))
 
 -- the check asks for the remainder 1, and past the pair for nothing else
 checked : (s : Bytes) → checks97 s ≡ true → remainder97 s ≡ 1
-checked s c = eqb-true (remainder97 s) 1 (all3 (leb 4 (length s)) (within 2 98 (number 0 (pair s))) _ .0 c .2)
+checked s c = eqb-true (remainder97 s) 1 (all3 (leb 4 (length s)) (within 2 98 (numeral 0 (pair s))) _ .0 c .2)
 
 checks-past : (a t u : Bytes) → 4 ≤ length a → checks97 (a ++ t) ≡ true → checks97 (a ++ u) ≡ eqb (remainder97 (a ++ u)) 1
 checks-past a t u h c =
-    let (_, w, _) = all3 (leb 4 (length (a ++ t))) (within 2 98 (number 0 (pair (a ++ t)))) _ .0 c in
+    let (_, w, _) = all3 (leb 4 (length (a ++ t))) (within 2 98 (numeral 0 (pair (a ++ t)))) _ .0 c in
     rw (le-leb 4 (length (a ++ u)) (omega (arith, length-append a u)), pair-of u, rw (pair-of t) at w)
   where
     pair-of : (t : Bytes) → pair (a ++ t) ≡ pair a
@@ -94,7 +94,7 @@ checks-swapped a b x y h c =
 -- and unlike ones pass exactly where both stand past the IID and are 1 and B, 2 and M, or 3 and X
 pub swapped-iban : (a b : Bytes) (x y : ℕ) → passesIban (a ++ (x ∷ y ∷ b)) ≡ true → 4 ≤ length a → x ≢ y
     → passesIban (a ++ (y ∷ x ∷ b)) ≡ leb 9 (length a) && sameDigits x y
-swapped-iban a b x y e h d = go (leb 9 (length a)) refl
+swapped-iban a b x y e h d = by-cases (leb 9 (length a)) refl
   where
     i : iban (a ++ (x ∷ y ∷ b)) ≡ true
     i = and-eq-true-iff _ _ .0 e .0
@@ -108,11 +108,11 @@ swapped-iban a b x y e h d = go (leb 9 (length a)) refl
         ∙ told orders (λ x y. eqb x y || sameDigits x y) orders-told x y p q
         ∙ other (eqb x y) _ (ne-eqb x y d)
 
-    go : (t : Bool) → leb 9 (length a) ≡ t → passesIban (a ++ (y ∷ x ∷ b)) ≡ t && sameDigits x y
-    go true k =
+    by-cases : (t : Bool) → leb 9 (length a) ≡ t → passesIban (a ++ (y ∷ x ∷ b)) ≡ t && sameDigits x y
+    by-cases true k =
         let j = form-swapped a b x y (leb-true 9 (length a) k) i in
         rw j (agreeing (digit-or-capital a (x ∷ b) y j h))
-    go false k =
+    by-cases false k =
         never _
         (λ f.
         let (j, c) = and-eq-true-iff (iban (a ++ (y ∷ x ∷ b))) _ .0 f in

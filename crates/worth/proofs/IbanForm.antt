@@ -12,7 +12,7 @@ use Rattle.sieve.specs.Bytes.{Bytes, every}
 use Rattle.sieve.specs.Letters.{digit, digitOrCapital}
 use Rattle.swiss.specs.Forms.{iban}
 use Rattle.sieve.proofs.EachPlace.{each-place-of}
-use Rattle.numbers.proofs.Texts.{all4}
+use Rattle.making.proofs.Texts.{all4}
 use Rattle.worth.proofs.Texts.{every-swapped, length-swapped}
 
 -- the form from the third character on
@@ -28,11 +28,11 @@ module _ (a b : Bytes) (x : ℕ) (e : iban (a ++ (x ∷ b)) ≡ true) (h : 4 ≤
 
   -- a digit or a capital there and past it
   pub digit-or-capital : digitOrCapital x ≡ true
-  digit-or-capital = go (leb 9 (length a)) refl
+  digit-or-capital = by-cases (leb 9 (length a)) refl
     where
-      go : (t : Bool) → leb 9 (length a) ≡ t → digitOrCapital x ≡ true
-      go false k = rw (iid-digit (leb-false 9 (length a) k))
-      go true k =
+      by-cases : (t : Bool) → leb 9 (length a) ≡ t → digitOrCapital x ≡ true
+      by-cases false k = rw (iid-digit (leb-false 9 (length a) k))
+      by-cases true k =
           let j = leb-true 9 (length a) k in
           let (l, _, r) = formed (a ++ (x ∷ b)) e in
           rw (getD-append-seam a x b 0) at

@@ -27,16 +27,16 @@ use Rattle.worth.specs.Bills.{Accepted}
 
 another : {A : Type 0} (xs : List A) (i : ℕ) (t x : A) → List·Memᴰ x (set xs i t) → (x ≡ t) ⊎ List·Memᴰ x xs
 another [] i t x m = inr m
-another (y ∷ xs) zero t x m = go (List·Memᴰ·cases-cons m)
+another (y ∷ xs) zero t x m = by-cases (List·Memᴰ·cases-cons m)
   where
-    go : (x ≡ t) ⊎ List·Memᴰ x xs → (x ≡ t) ⊎ List·Memᴰ x (y ∷ xs)
-    go (inl e) = inl e
-    go (inr i) = inr (List·Memᴰ·tail i)
-another (y ∷ xs) (suc i) t x m = go (List·Memᴰ·cases-cons m) (another xs i t x)
+    by-cases : (x ≡ t) ⊎ List·Memᴰ x xs → (x ≡ t) ⊎ List·Memᴰ x (y ∷ xs)
+    by-cases (inl e) = inl e
+    by-cases (inr i) = inr (List·Memᴰ·tail i)
+another (y ∷ xs) (suc i) t x m = by-cases (List·Memᴰ·cases-cons m) (another xs i t x)
   where
-    go : (x ≡ y) ⊎ List·Memᴰ x (set xs i t) → (List·Memᴰ x (set xs i t) → (x ≡ t) ⊎ List·Memᴰ x xs) → (x ≡ t) ⊎ List·Memᴰ x (y ∷ xs)
-    go (inl e) ih = inr (List·Memᴰ·head e)
-    go (inr j) ih = later (ih j)
+    by-cases : (x ≡ y) ⊎ List·Memᴰ x (set xs i t) → (List·Memᴰ x (set xs i t) → (x ≡ t) ⊎ List·Memᴰ x xs) → (x ≡ t) ⊎ List·Memᴰ x (y ∷ xs)
+    by-cases (inl e) ih = inr (List·Memᴰ·head e)
+    by-cases (inr j) ih = later (ih j)
       where
         later : (x ≡ t) ⊎ List·Memᴰ x xs → (x ≡ t) ⊎ List·Memᴰ x (y ∷ xs)
         later (inl e) = inl e
@@ -59,9 +59,9 @@ as-long k (l ∷ ls) (suc i) t e = rw (length-append l (afterBreaks k (set ls i 
 pub accepted-bill : (p : Bytes) (n : ℕ) (k : Break) → Accepted p n k → Is swiss p n k (billOf p)
 unfolding swiss
 accepted-bill p n k h =
-    let (b, is) = swiss-demand-three .accepts .sound p n k h in
-    let e : billOf p ≡ b = ap billOf (sym (is .writes)) ∙ read-back swiss (λ ls. lawful) (lit≤ tt) b (is .keeps) in
-    rw e is
+    let (b, bill-is) = swiss-demand-three .accepts .sound p n k h in
+    let e : billOf p ≡ b = ap billOf (sym (bill-is .writes)) ∙ read-back swiss (λ ls. lawful) (lit≤ tt) b (bill-is .keeps) in
+    rw e bill-is
 
 -- what a finding makes of such a payload
 abbrev pub asFound : ℕ → Break → Option Refusal → Verdict
@@ -79,30 +79,30 @@ module _ (p : Bytes) (n : ℕ) (k : Break) (h : Accepted p n k) (i : ℕ) (t : B
       record {
         enough = rw (length-set (billOf p .lines) i t) (keeps .enough);
         not-too-many = rw (length-set (billOf p .lines) i t) (keeps .not-too-many);
-        text = λ l m. go l (keeps .text) (another (billOf p .lines) i t l m);
+        text = λ l m. along l (keeps .text) (another (billOf p .lines) i t l m);
         fits = rw (as-long (billOf p .break) (billOf p .lines) i t long) (keeps .fits);
         unbroken = λ r m. absurd (List·Memᴰ·not-nil m);
       }
     where
-      go : (l : Bytes) → ((l : Bytes) → List·Memᴰ l (billOf p .lines) → Text latin l) → (l ≡ t) ⊎ List·Memᴰ l (billOf p .lines) → Text latin l
-      go l texts (inl e) = rw e text
-      go l texts (inr m) = texts l m
+      along : (l : Bytes) → ((l : Bytes) → List·Memᴰ l (billOf p .lines) → Text latin l) → (l ≡ t) ⊎ List·Memᴰ l (billOf p .lines) → Text latin l
+      along l texts (inl e) = rw e text
+      along l texts (inr m) = texts l m
 
   pub told : (o : Option Refusal) → first (map (aboutLines (set (billOf p .lines) i t)) (rules V24)) ≡ o
       → verdict swiss (joined (billOf p .break) (set (billOf p .lines) i t)) ≡ asFound n k o
   unfolding swiss written billOf
   told o e =
-      let is = accepted-bill p n k h in
+      let bill-is = accepted-bill p n k h in
       let L = bare swiss in
       let q = joined (billOf p .break) (set (billOf p .lines) i t) in
       let accepts : verdict L q ≡ accepted n k =
-      accepts-exactly L (λ ls. lawful) (lit≤ tt) .complete other other-keeps ∙ rw (length-set (billOf p .lines) i t, is .count, is .break) in
+      accepts-exactly L (λ ls. lawful) (lit≤ tt) .complete other other-keeps ∙ rw (length-set (billOf p .lines) i t, bill-is .count, bill-is .break) in
       let same : linesOf (cut q) ≡ set (billOf p .lines) i t = ap (λ (b : Bill). b .lines) (read-back L (λ ls. lawful) (lit≤ tt) other other-keeps) in
       let finds : first (map (aboutLines (linesOf (cut q))) (rules V24)) ≡ o = rw same e in
-      go o finds accepts
+      by-cases o finds accepts
     where
-      go : (o : Option Refusal) → first (map (aboutLines (linesOf (cut (joined (billOf p .break) (set (billOf p .lines) i t))))) (rules V24)) ≡ o
+      by-cases : (o : Option Refusal) → first (map (aboutLines (linesOf (cut (joined (billOf p .break) (set (billOf p .lines) i t))))) (rules V24)) ≡ o
           → verdict (bare swiss) (joined (billOf p .break) (set (billOf p .lines) i t)) ≡ accepted n k
           → verdict swiss (joined (billOf p .break) (set (billOf p .lines) i t)) ≡ asFound n k o
-      go none f a = more-kept (bare swiss) (rules V24) (joined (billOf p .break) (set (billOf p .lines) i t)) n k a f
-      go (some r) f a = more-broken (bare swiss) (rules V24) (joined (billOf p .break) (set (billOf p .lines) i t)) n k a r f
+      by-cases none f a = more-kept (bare swiss) (rules V24) (joined (billOf p .break) (set (billOf p .lines) i t)) n k a f
+      by-cases (some r) f a = more-broken (bare swiss) (rules V24) (joined (billOf p .break) (set (billOf p .lines) i t)) n k a r f

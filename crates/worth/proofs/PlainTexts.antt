@@ -16,8 +16,8 @@ use Rattle.sieve.proofs.Bounds.{is-within, same-is}
 use Rattle.sieve.proofs.Charsets.{in-each-set}
 use Rattle.runs.proofs.Parts.{every-parted, every-weaker}
 use Rattle.swiss.specs.Forms.{iban}
-use Rattle.numbers.proofs.Texts.{all4}
-use Rattle.worth.specs.Slips.{letter, sameKind}
+use Rattle.making.proofs.Texts.{all4}
+use Rattle.worth.specs.Slips.{isLetter, sameKind}
 use Rattle.worth.proofs.Tests.{one-of}
 
 -- bytes 20 to 7E are text
@@ -45,7 +45,7 @@ pub plain-kind : (x y : ℕ) → sameKind x y ≡ true → inOne y ≡ true
 plain-kind x y e =
     one-of _ _ e
     (λ p. plain-digit y (and-eq-true-iff (digit x) _ .0 p .1))
-    (λ p. one-of (capital y) (small y) (and-eq-true-iff (letter x) _ .0 p .1) (plain-capital y) (plain-small y))
+    (λ p. one-of (capital y) (small y) (and-eq-true-iff (isLetter x) _ .0 p .1) (plain-capital y) (plain-small y))
 
 pub plain-digits : (s : Bytes) → every digit s ≡ true → every inOne s ≡ true
 plain-digits = every-weaker digit inOne plain-digit

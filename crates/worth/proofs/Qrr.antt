@@ -18,8 +18,8 @@ use Rattle.sieve.proofs.EachPlace.{each-place}
 use Rattle.mod10.proofs.Carries.{nextAfter, next-small, carry-small, carry-appended}
 use Rattle.worth.specs.Slips.{fourAndSeven}
 use Rattle.worth.specs.Worth.{passesQrr}
-use Rattle.numbers.proofs.Texts.{all3}
-use Rattle.numbers.proofs.OneQrr.{last-apart, zeros-carry}
+use Rattle.making.proofs.Texts.{all3}
+use Rattle.making.proofs.OneQrr.{last-apart, zeros-carry}
 use Rattle.worth.proofs.Tests.{never}
 use Rattle.worth.proofs.Texts.{every-behind, every-changed, every-swapped, length-swapped, length-changed}
 use Rattle.worth.proofs.NextCarries.{to-0, carry-one, digit-one, pair-one}
@@ -73,11 +73,11 @@ one-qrr a b x y e f =
 
 -- zeros leave no carry, so that one that passes, with another byte at one place, keeps its form exactly where that byte is a digit
 pub form-changed : (a b : Bytes) (x y : ℕ) → passesQrr (a ++ (x ∷ b)) ≡ true → x ≢ y → qrr (a ++ (y ∷ b)) ≡ digit y
-form-changed a b x y e d = go (digit y) refl
+form-changed a b x y e d = by-cases (digit y) refl
   where
-    go : (c : Bool) → digit y ≡ c → qrr (a ++ (y ∷ b)) ≡ c
-    go false h = never _ (λ f. false≢true (sym h ∙ every-behind digit a b y (all3 (eqb (length (a ++ (y ∷ b))) 27) (every digit (a ++ (y ∷ b))) _ .0 f .1)))
-    go true h =
+    by-cases : (c : Bool) → digit y ≡ c → qrr (a ++ (y ∷ b)) ≡ c
+    by-cases false h = never _ (λ f. false≢true (sym h ∙ every-behind digit a b y (all3 (eqb (length (a ++ (y ∷ b))) 27) (every digit (a ++ (y ∷ b))) _ .0 f .1)))
+    by-cases true h =
         let (l, p, g) = passed (a ++ (x ∷ b)) e in
         let q = every-changed digit a b x y p h in
         all3 _ _ _ .1 (

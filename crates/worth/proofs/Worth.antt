@@ -9,7 +9,7 @@ use Rattle.sieve.specs.Bytes.{Bytes}
 use Rattle.sieve.specs.Letters.{digit, capital, small}
 use Rattle.swiss.specs.Forms.{iban}
 use Rattle.sieve.proofs.Bounds.{is-within}
-use Rattle.worth.specs.Slips.{letter, sameKind}
+use Rattle.worth.specs.Slips.{isLetter, sameKind}
 use Rattle.worth.specs.Worth.{passesQrr, passesIban, QrrChanged, QrrSwapped, IbanChanged, IbanSwapped}
 use Rattle.worth.proofs.Tests.{one-of, never}
 use Rattle.worth.proofs.Texts.{in-three, in-four}
@@ -36,11 +36,11 @@ long s e = formed s (and-eq-true-iff (iban s) _ .0 e .0) .0
 -- two of a kind are both digits, or neither is
 of-a-kind : (x y : ℕ) → sameKind x y ≡ true → digit x ≡ digit y
 of-a-kind x y e =
-    one-of (digit x && digit y) (letter x && letter y) e
+    one-of (digit x && digit y) (isLetter x && isLetter y) e
     (λ p. let (a, b) = and-eq-true-iff (digit x) _ .0 p in a ∙ sym b)
-    (λ p. let (a, b) = and-eq-true-iff (letter x) _ .0 p in no-digit x a ∙ sym (no-digit y b))
+    (λ p. let (a, b) = and-eq-true-iff (isLetter x) _ .0 p in no-digit x a ∙ sym (no-digit y b))
   where
-    no-digit : (x : ℕ) → letter x ≡ true → digit x ≡ false
+    no-digit : (x : ℕ) → isLetter x ≡ true → digit x ≡ false
     no-digit x e =
         never _
         (λ f. one-of (capital x) (small x) e

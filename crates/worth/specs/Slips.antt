@@ -16,12 +16,12 @@ changed i y s = take i s ++ (y ∷ drop (i + 1) s)
 abbrev pub swapped : ℕ → Bytes → Bytes
 swapped i s = take i s ++ (getD s (i + 1) 0 ∷ getD s i 0 ∷ drop (i + 2) s)
 
-abbrev pub letter : ℕ → Bool
-letter x = capital x || small x
+abbrev pub isLetter : ℕ → Bool
+isLetter x = capital x || small x
 
 -- two digits, or two letters
 abbrev pub sameKind : ℕ → ℕ → Bool
-sameKind x y = (digit x && digit y) || (letter x && letter y)
+sameKind x y = (digit x && digit y) || (isLetter x && isLetter y)
 
 -- u and v are a and b, in either order
 abbrev pub eitherOrder : ℕ → ℕ → ℕ → ℕ → Bool

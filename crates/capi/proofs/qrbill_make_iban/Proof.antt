@@ -1,7 +1,7 @@
 -- `capi::qrbill_make_iban` meets its contract: what is answered packs. Assumes nothing.
 use native.Mathlib.Omega.{arith}
 use borrow.Author.Needs.{needs}
-use Rattle.numbers.proofs.Promise.{iban-length}
+use Rattle.making.proofs.Promise.{iban-length}
 use Rattle.capi.proofs.Made.{making-packs, made-packed}
 use Rattle.capi.proofs.qrbill_make_iban.Statement.{statement}
 use Rattle.capi.proofs.qrbill_make_iban.Tie as tie

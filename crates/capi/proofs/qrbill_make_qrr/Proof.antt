@@ -1,7 +1,7 @@
 -- `capi::qrbill_make_qrr` meets its contract: what is answered packs. Assumes nothing.
 use native.Mathlib.Omega.{arith}
 use borrow.Author.Needs.{needs}
-use Rattle.numbers.proofs.Promise.{qrr-length}
+use Rattle.making.proofs.Promise.{qrr-length}
 use Rattle.capi.proofs.Made.{making-packs, made-packed}
 use Rattle.capi.proofs.qrbill_make_qrr.Statement.{statement}
 use Rattle.capi.proofs.qrbill_make_qrr.Tie as tie

@@ -1,7 +1,7 @@
 -- `capi::qrbill_make_scor` meets its contract: what is answered packs. Assumes nothing.
 use native.Mathlib.Omega.{arith}
 use borrow.Author.Needs.{needs}
-use Rattle.numbers.proofs.Promise.{scor-length}
+use Rattle.making.proofs.Promise.{scor-length}
 use Rattle.capi.proofs.Made.{making-packs, made-packed}
 use Rattle.capi.proofs.qrbill_make_scor.Statement.{statement}
 use Rattle.capi.proofs.qrbill_make_scor.Tie as tie

@@ -44,8 +44,8 @@ returns c =
     let at-season = at-n .before .before .before .before in
     let at-room = at-season .before .before in
     let a = at-room .before .before .before .before .before .args in
-    let is = rw (at-n .n .given .1) at (at-season .season .ensures) in
-    short-packed (a .buffer .now) (a .places .now) (a .count) (a .list .now) (a .sums .now) (at-room .room-beside .result) (at-room .room-beside .ensures .0) is (c .before .if1 .taken) (c .packed-refusal2 .ensures)
+    let tried = rw (at-n .n .given .1) at (at-season .season .ensures) in
+    short-packed (a .buffer .now) (a .places .now) (a .count) (a .list .now) (a .sums .now) (at-room .room-beside .result) (at-room .room-beside .ensures .0) tried (c .before .if1 .taken) (c .packed-refusal2 .ensures)
 
 slice-write-sums : tie.Need-slice-write-sums
 slice-write-sums c = search needs
@@ -66,8 +66,8 @@ returns-2 c =
     let at-season = c .before .before .before .before .before .before in
     let at-room = at-season .before .before in
     let a = at-room .before .before .before .before .before .args in
-    let is = rw (c .before .before .fault .given .1) at (at-season .season .ensures) in
-    refused-packed (a .buffer .now) (a .places .now) (a .count) (a .list .now) (a .sums .now) (at-room .room-beside .result) (at-room .room-beside .ensures .0) is (c .packed-refusal .ensures)
+    let tried = rw (c .before .before .fault .given .1) at (at-season .season .ensures) in
+    refused-packed (a .buffer .now) (a .places .now) (a .count) (a .list .now) (a .sums .now) (at-room .room-beside .result) (at-room .room-beside .ensures .0) tried (c .packed-refusal .ensures)
 
 same-length-3 : tie.Need-same-length-3
 same-length-3 c = search needs
@@ -81,8 +81,8 @@ returns-3 c =
     let at-season = at-n .before .before .before .before in
     let at-room = at-season .before .before in
     let a = at-room .before .before .before .before .before .args in
-    let is = rw (at-n .n .given .1) at (at-season .season .ensures) in
-    listed-packed (a .buffer .now) (a .places .now) (a .count) (a .list .now) (a .sums .now) (at-room .room-beside .result) (at-room .room-beside .ensures .0) is (c .if1 .left) refl
+    let tried = rw (at-n .n .given .1) at (at-season .season .ensures) in
+    listed-packed (a .buffer .now) (a .places .now) (a .count) (a .list .now) (a .sums .now) (at-room .room-beside .result) (at-room .room-beside .ensures .0) tried (c .if1 .left) refl
 
 pub qrbill-season-spec : {M : Type 1} → statement M
 qrbill-season-spec =

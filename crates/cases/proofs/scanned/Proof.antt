@@ -17,8 +17,8 @@ begin-requires c κs = search needs
 loop-holds : tie.Need-loop-holds Inv-loop μ-loop
 loop-holds c = search needs
 
-number-requires : tie.Need-number-requires Inv-loop μ-loop
-number-requires c κs = search needs
+number-at-requires : tie.Need-number-at-requires Inv-loop μ-loop
+number-at-requires c κs = search needs
 
 cast-at-most : tie.Need-cast-at-most Inv-loop μ-loop
 cast-at-most c = search needs
@@ -64,7 +64,7 @@ scanned-spec =
     μ-loop
     begin-requires
     loop-holds
-    number-requires
+    number-at-requires
     cast-at-most
     sub-at-most
     at-most-requires

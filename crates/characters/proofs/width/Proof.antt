@@ -44,7 +44,7 @@ in-three-requires : tie.Need-in-three-requires
 in-three-requires c κs = search needs
 
 -- what is neither of one byte nor of two is of three, or none
-three : (c : tie.After-in-three) → let a = c .before .before .before .before .before .before .before .before .before .before .args in latin (drop (a .at) (a .s .now)) ≡ cond (c .in-three .result) 3 0
+three : (c : tie.After-in-three) → let at-first = c .before .before .before .before .before .before in let a = at-first .before .before .before .before .args in latin (drop (a .at) (a .s .now)) ≡ cond (c .in-three .result) 3 0
 unfolding latin
 three c =
     let e = c .before .before in

@@ -49,11 +49,11 @@ same-requires c κs = search needs
 whole-requires : tie.Need-whole-requires
 whole-requires c κs = search needs
 
-parted-requires : tie.Need-parted-requires
-parted-requires c κs = search needs
+with-fraction-requires : tie.Need-with-fraction-requires
+with-fraction-requires c κs = search needs
 
-parted-requires-2 : tie.Need-parted-requires-2
-parted-requires-2 c κs = search needs
+with-fraction-requires-2 : tie.Need-with-fraction-requires-2
+with-fraction-requires-2 c κs = search needs
 
 slice-aggregate-same-2 : tie.Need-slice-aggregate-same-2
 slice-aggregate-same-2 c = search needs
@@ -66,7 +66,7 @@ returns-2 c =
     let at-same = c .before .before .before .before .before in
     let at-start = at-same .before .before .before .before .before .before in
     let s = at-start .args .s .now in
-    rw (at-same .same .ensures, c .before .before .before .before .whole .ensures, c .before .before .before .parted .ensures, c .before .before .parted2 .ensures, c .same2 .ensures, rest 3 s)
+    rw (at-same .same .ensures, c .before .before .before .before .whole .ensures, c .before .before .before .with-fraction .ensures, c .before .before .with-fraction2 .ensures, c .same2 .ensures, rest 3 s)
 
 pub amount-spec : {M : Type 1} → statement M
 amount-spec =
@@ -82,8 +82,8 @@ amount-spec =
     slice-aggregate-same
     same-requires
     whole-requires
-    parted-requires
-    parted-requires-2
+    with-fraction-requires
+    with-fraction-requires-2
     slice-aggregate-same-2
     same-requires-2
     returns-2)

@@ -12,7 +12,7 @@ use Rattle.sieve.specs.Charsets.{ofSet}
 use Rattle.sieve.specs.Iso8859.{iso8859}
 use Rattle.sieve.specs.Latin.{latin}
 use Rattle.sieve.specs.Lines.{cut, linesOf}
-use Rattle.sieve.specs.Whole.{plain, bare, limitsOf}
+use Rattle.sieve.specs.Whole.{limited, bare, limitsOf}
 use Rattle.girocode.specs.Girocode.{rules, girocode}
 use Rattle.findings.proofs.Looking.{numbered, found-nothing, found-fault}
 use Rattle.whole.specs.Judged.{IsJudged}
@@ -29,11 +29,11 @@ abbrev ls : tie.Start → List Bytes
 ls c = linesOf (cut (c .args .payload .now))
 
 -- the set is that of the characters that the lines choose
-chosen-so : {chooses iso is : Bool} {set named : Charset} → iso ≡ chooses → iso ≡ is → set ≡ named → cond is iso8859 latin ≡ ofSet named → cond chooses iso8859 latin ≡ ofSet set
-chosen-so coded is set same = ap (λ (b : Bool). cond b iso8859 latin) (sym coded ∙ is) ∙ same ∙ ap ofSet (sym set)
+chosen-so : {chooses iso judged : Bool} {set named : Charset} → iso ≡ chooses → iso ≡ judged → set ≡ named → cond judged iso8859 latin ≡ ofSet named → cond chooses iso8859 latin ≡ ofSet set
+chosen-so coded judged set same = ap (λ (b : Bool). cond b iso8859 latin) (sym coded ∙ judged) ∙ same ∙ ap ofSet (sym set)
 
 -- so that what rules 1 to 5 say with that set they say of a girocode
-by-choice : (c : tie.Joined1) {r : Answer} {after : List ℕ} → let p = c .before .before .before .args .payload .now in IsJudged (plain (limitsOf girocode) (ofSet (c .if1 .set))) p r after → IsJudged (bare girocode) p r after
+by-choice : (c : tie.Joined1) {r : Answer} {after : List ℕ} → let p = c .before .before .before .args .payload .now in IsJudged (limited (limitsOf girocode) (ofSet (c .if1 .set))) p r after → IsJudged (bare girocode) p r after
 unfolding girocode
 by-choice c =
     let coded = c .before .read-as-iso .ensures in
@@ -58,8 +58,8 @@ rules-requires c κs =
     let at-whole = c .before .before .before .before in
     let at-choice = at-whole .before .before in
     let at-start = at-choice .before .before .before in
-    let is = rw (c .before .before .n .given .1) at (by-choice at-choice (at-whole .whole .ensures)) in
-    let (listed-is, count-is) = counted (bare girocode) (at-start .args .payload .now) is (lit≤ tt) in
+    let judged = rw (c .before .before .n .given .1) at (by-choice at-choice (at-whole .whole .ensures)) in
+    let (listed-is, count-is) = counted (bare girocode) (at-start .args .payload .now) judged (lit≤ tt) in
     (record { listed = listed-is; coded = at-choice .before .read-as-iso .ensures }, record { listed = listed-is; counted = count-is })
 
 clear-requires : tie.Need-clear-requires
@@ -75,10 +75,10 @@ returns c =
     let at-whole = at-test .before .before .before .before .before .before .before in
     let at-choice = at-whole .before .before in
     let at-start = at-choice .before .before .before in
-    let is = rw (at-test .before .before .before .before .before .n .given .1) at (by-choice at-choice (at-whole .whole .ensures)) in
+    let judged = rw (at-test .before .before .before .before .before .n .given .1) at (by-choice at-choice (at-whole .whole .ensures)) in
     let found = at-test .before .before .rules .ensures in
     let is-fault = rw (← found, ← c .fault-of .ensures) at (found-fault (ls at-start) rules rules-numbered (rw found at (at-test .if2 .taken))) in
-    broken (bare girocode) rules (at-start .args .payload .now) is (c .fault-of .result) is-fault refl (c .before .clear .ensures)
+    broken (bare girocode) rules (at-start .args .payload .now) judged (c .fault-of .result) is-fault refl (c .before .clear .ensures)
 
 returns-2 : tie.Need-returns-2
 unfolding girocode
@@ -94,9 +94,9 @@ returns-3 c =
     let at-whole = c .before .before .before .before .before .before .before in
     let at-choice = at-whole .before .before in
     let at-start = at-choice .before .before .before in
-    let is = rw (c .before .before .before .before .before .n .given .1) at (by-choice at-choice (at-whole .whole .ensures)) in
+    let judged = rw (c .before .before .before .before .before .n .given .1) at (by-choice at-choice (at-whole .whole .ensures)) in
     let found = c .before .before .rules .ensures in
-    kept (bare girocode) rules (at-start .args .payload .now) is (found-nothing (ls at-start) rules rules-numbered (rw found at (c .if2 .left)))
+    kept (bare girocode) rules (at-start .args .payload .now) judged (found-nothing (ls at-start) rules rules-numbered (rw found at (c .if2 .left)))
 
 pub judge-spec : {M : Type 1} → statement M
 judge-spec =

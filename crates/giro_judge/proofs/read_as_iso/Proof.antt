@@ -4,13 +4,14 @@ use mathlib.Core.Path.{_∙_, ap}
 use lib.Dec.{lit≤}
 use lib.ListN.{length}
 use borrow.Author.Needs.{needs}
+use Rattle.sieve.specs.Places.{walkLines}
 use Rattle.sieve.specs.Bytes.{Bytes, ascii, same}
 use Rattle.sieve.proofs.Placing.{entry-at}
 use Rattle.girocode.specs.Limits.{iso8859-1}
-use Rattle.text.specs.declared.Place.{Place}
-use Rattle.text.specs.LinesIn.{linesIn, lineOf}
-use Rattle.text.specs.Results.{IsPlaceOf}
-use Rattle.places.specs.Listed.{capacity, listed}
+use Rattle.lines.specs.declared.Place.{Place}
+use Rattle.lines.specs.LinesIn.{linesIn, lineOf}
+use Rattle.lines.specs.Results.{IsPlaceOf}
+use Rattle.places.specs.Listed.{listed}
 use Rattle.places.proofs.Listed.{LineAtPlace, listed-line, part-is-line}
 use Rattle.giro_judge.proofs.read_as_iso.Statement.{statement}
 use Rattle.giro_judge.proofs.read_as_iso.Tie as tie
@@ -19,7 +20,7 @@ use Rattle.giro_judge.proofs.read_as_iso.Tie as tie
 third-line : (p : Bytes) (r : Place) → IsPlaceOf (lineOf p 3) r → LineAtPlace p 3 (r .start) (r .bytes)
 unfolding listed lineOf
 third-line p r is =
-    let (start, bytes) = entry-at capacity 2 (length p) (linesIn p) (lit≤ tt) in
+    let (start, bytes) = entry-at walkLines 2 (length p) (linesIn p) (lit≤ tt) in
     rw (is .start, is .bytes, ← start, ← bytes) (listed-line p 3 (lit≤ tt) (lit≤ tt))
 
 line-place-requires : tie.Need-line-place-requires

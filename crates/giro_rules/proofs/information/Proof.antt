@@ -24,8 +24,8 @@ too-long-requires c κs = search needs
 rule-requires : tie.Need-rule-requires
 rule-requires c κs = search needs
 
-plain-requires : tie.Need-plain-requires
-plain-requires c κs = search needs
+basic-requires : tie.Need-basic-requires
+basic-requires c κs = search needs
 
 formed-requires : tie.Need-formed-requires
 formed-requires c κs = search needs
@@ -77,7 +77,7 @@ returns c =
         rw (at-text .before .before .before .before .too-long .ensures, reference, iso) at (at-text .before .before .before .rule .ensures),
         (
           _,
-          rw (at-text .before .before .plain .ensures, reference) at (at-text .before .formed .ensures),
+          rw (at-text .before .before .basic .ensures, reference) at (at-text .before .formed .ensures),
           (
             _,
             rw (text, count) at (at-display .before .before .before .filled2 .ensures),
@@ -111,7 +111,7 @@ information-spec =
     filled-requires
     too-long-requires
     rule-requires
-    plain-requires
+    basic-requires
     formed-requires
     line-requires-2
     filled-requires-2

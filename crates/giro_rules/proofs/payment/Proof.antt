@@ -30,8 +30,8 @@ too-long-requires c κs = search needs
 rule-requires : tie.Need-rule-requires
 rule-requires c κs = search needs
 
-plain-requires : tie.Need-plain-requires
-plain-requires c κs = search needs
+basic-requires : tie.Need-basic-requires
+basic-requires c κs = search needs
 
 formed-requires-2 : tie.Need-formed-requires-2
 formed-requires-2 c κs = search needs
@@ -60,7 +60,7 @@ returns c =
             rw (c .before .before .before .too-long .ensures, purpose, iso) at (c .before .before .rule .ensures),
             (
               _,
-              rw (c .before .plain .ensures, purpose) at (c .formed2 .ensures),
+              rw (c .before .basic .ensures, purpose) at (c .formed2 .ensures),
               refl,
             ),
           ),
@@ -80,6 +80,6 @@ payment-spec =
     filled-requires-2
     too-long-requires
     rule-requires
-    plain-requires
+    basic-requires
     formed-requires-2
     returns)

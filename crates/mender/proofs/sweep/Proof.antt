@@ -4,13 +4,13 @@ use native.Mathlib.Omega.{arith}
 use mathlib.Core.Path.{_≡_, refl}
 use lib.ListN.{length}
 use borrow.Author.Needs.{needs}
-use Rattle.mender.specs.Sweeping.{Passed}
+use Rattle.mender.specs.Sweeping.{SweptTo}
 use Rattle.mender.proofs.Passing.{first-byte, after-last}
 use Rattle.mender.proofs.sweep.Statement.{statement}
 use Rattle.mender.proofs.sweep.Tie as tie
 
 abbrev Inv-loop : tie.InvT-loop
-Inv-loop payload room₀ t₀ i₀ room t i = Passed payload i t room × (length room ≡ length room₀)
+Inv-loop payload room₀ t₀ i₀ room t i = SweptTo payload i t room × (length room ≡ length room₀)
 
 abbrev μ-loop : tie.MeasureT-loop
 μ-loop payload room₀ t₀ i₀ room t i = length payload - i

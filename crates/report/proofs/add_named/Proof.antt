@@ -4,7 +4,7 @@ use mathlib.Core.List.{_++_, append-assoc}
 use mathlib.Core.Path.{_≡_, ap, _∙_}
 use lib.ListN.{take, length-append}
 use Rattle.sieve.specs.Bytes.{Bytes}
-use Rattle.report.specs.Spoken.{decimal}
+use Rattle.report.specs.Spoken.{inDecimal}
 use borrow.Author.Needs.{needs}
 use Rattle.report.proofs.add_named.Statement.{statement}
 use Rattle.report.proofs.add_named.Tie as tie
@@ -23,8 +23,8 @@ returns c =
     let at-number = c .before .before in
     let at-name = at-number .before .before .before .before in
     let a = at-name .before .before .before .before .args in (
-      omega (arith, at-number .add-number .ensures .0, at-name .add .ensures .0, length-append (a .name .now) (decimal (a .n))),
-      at-number .add-number .ensures .1 ∙ ap (λ (t : Bytes). t ++ decimal (a .n)) (at-name .add .ensures .1) ∙ append-assoc (take (a .at) (a .line .now)) (a .name .now) (decimal (a .n)),
+      omega (arith, at-number .add-number .ensures .0, at-name .add .ensures .0, length-append (a .name .now) (inDecimal (a .n))),
+      at-number .add-number .ensures .1 ∙ ap (λ (t : Bytes). t ++ inDecimal (a .n)) (at-name .add .ensures .1) ∙ append-assoc (take (a .at) (a .line .now)) (a .name .now) (inDecimal (a .n)),
     )
 
 pub add-named-spec : {M : Type 1} → statement M

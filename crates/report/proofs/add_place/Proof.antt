@@ -12,7 +12,7 @@ use Rattle.sieve.specs.declared.Fault.the-variants.{NoBytes, TooManyBytes, BadC
 use Rattle.sieve.specs.Bytes.{ascii}
 use Rattle.sieve.specs.Paper.{paperFault}
 use Rattle.sieve.proofs.Fault.{the-type}
-use Rattle.report.specs.Spoken.{decimal}
+use Rattle.report.specs.Spoken.{inDecimal}
 use Rattle.report.proofs.Adding.{few-digits}
 use borrow.Author.Needs.{needs}
 use Rattle.report.proofs.add_place.Statement.{statement}
@@ -64,7 +64,7 @@ returns c =
     let (size, text) = at-named .add-named .ensures in
     let place = at-known .fault .given .0 .1 .0 in
     let small = rw (at-known .fault .given .1) at (at-known .before .before .before .pre .0) in
-    rw (at-known .fault .given .1) (omega (arith, size, length-append (ascii " byte ") (decimal place), few-digits place small), (size, text))
+    rw (at-known .fault .given .1) (omega (arith, size, length-append (ascii " byte ") (inDecimal place), few-digits place small), (size, text))
 
 returns-2 : tie.Need-returns-2
 returns-2 c = rw (points-nowhere (c .before .before .args .fault) (c .match .keys2)) (omega arith, (omega arith, sym (append-nil _)))

@@ -9,7 +9,7 @@ use Rattle.sieve.specs.declared.Break.{Break}
 use Rattle.sieve.specs.declared.Break.the-variants.{Lf, CrLf}
 use Rattle.sieve.specs.Bytes.{Bytes, ascii}
 use Rattle.sieve.specs.Verdict.{accepted}
-use Rattle.report.specs.Spoken.{decimal, breakName, lineEnd, spoken}
+use Rattle.report.specs.Spoken.{inDecimal, breakName, lineEnd, spoken}
 use Rattle.report.proofs.Adding.{begun, more, few-digits}
 use borrow.Author.Needs.{needs}
 use Rattle.report.proofs.compose_accepted.Statement.{statement}
@@ -23,7 +23,7 @@ start c = c .before .before .before .before .before .before
 upto-count : (c : tie.After-slice-known2) → c .before .before .add-named .result ≤ 12
 upto-count c =
     let n = start c .args .n in
-    omega (arith, c .before .before .add-named .ensures .0, length-append (ascii "accepted ") (decimal n), few-digits n (start c .pre .0))
+    omega (arith, c .before .before .add-named .ensures .0, length-append (ascii "accepted ") (inDecimal n), few-digits n (start c .pre .0))
 
 slice-aggregate-add-named : tie.Need-slice-aggregate-add-named
 slice-aggregate-add-named c = search needs
@@ -66,8 +66,8 @@ whole : (c : tie.After-slice-known2) (k : Break) (r : ℕ) (line : Bytes)
 unfolding spoken
 whole c k r line e =
     let n = start c .args .n in
-    let s = more (end k) (begun (ascii "accepted " ++ decimal n) (c .before .before .add-named .ensures)) e in
-    (omega (arith, e .0, upto-count c, short-end k), s .text ∙ append-assoc (ascii "accepted ") (decimal n) (end k))
+    let s = more (end k) (begun (ascii "accepted " ++ inDecimal n) (c .before .before .add-named .ensures)) e in
+    (omega (arith, e .0, upto-count c, short-end k), s .text ∙ append-assoc (ascii "accepted ") (inDecimal n) (end k))
 
 returns : tie.Need-returns
 returns c = rw (c .before .before .before .before .before .enum-told .given .1) (whole (c .before .before .before .before .before .before .before) Lf _ _ (c .before .before .add .ensures))

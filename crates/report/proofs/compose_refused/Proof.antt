@@ -8,7 +8,7 @@ use Rattle.sieve.specs.Bytes.{Bytes, ascii}
 use Rattle.sieve.specs.Paper.{paperFault}
 use Rattle.sieve.specs.Verdict.{refused}
 use Rattle.sieve.specs.declared.Fault.{Fault}
-use Rattle.report.specs.Spoken.{decimal, lineEnd, spokenPlace, spoken}
+use Rattle.report.specs.Spoken.{inDecimal, lineEnd, spokenPlace, spoken}
 use Rattle.report.proofs.Adding.{begun, more, few-digits}
 use borrow.Author.Needs.{needs}
 use Rattle.report.proofs.compose_refused.Statement.{statement}
@@ -51,7 +51,7 @@ slice-aggregate-add-named-2 c = search needs
 upto-number : (c : tie.After-slice-known2) → c .before .before .add-named .result ≤ 11
 upto-number c =
     let n = number-asked c .number-of in
-    omega (arith, c .before .before .add-named .ensures .0, length-append (ascii "refused ") (decimal (n .result)), few-digits (n .result) (rw (n .ensures) (start c .pre .0 .0)))
+    omega (arith, c .before .before .add-named .ensures .0, length-append (ascii "refused ") (inDecimal (n .result)), few-digits (n .result) (rw (n .ensures) (start c .pre .0 .0)))
 
 line-of-requires : tie.Need-line-of-requires
 line-of-requires c κs = search needs
@@ -66,7 +66,7 @@ upto-place : (c : tie.After-slice-known3) → c .before .before .add-named2 .res
 upto-place c =
     let asked = line-asked c in
     let (_, line, _) = start (number-laid asked) .pre .0 in
-    omega (arith, upto-number (number-laid asked), c .before .before .add-named2 .ensures .0, length-append (ascii " line ") (decimal (asked .line-of .result)), few-digits (asked .line-of .result) (rw (asked .line-of .ensures) line))
+    omega (arith, upto-number (number-laid asked), c .before .before .add-named2 .ensures .0, length-append (ascii " line ") (inDecimal (asked .line-of .result)), few-digits (asked .line-of .result) (rw (asked .line-of .ensures) line))
 
 add-place-requires : tie.Need-add-place-requires
 add-place-requires c κs =
@@ -91,9 +91,9 @@ six : (a b c d e f : Bytes) → (((a ++ b) ++ (c ++ d)) ++ e) ++ f ≡ a ++ (b +
 six a b c d e f = append-assoc ((a ++ b) ++ (c ++ d)) e f ∙ append-assoc (a ++ b) (c ++ d) (e ++ f) ∙ append-assoc a b ((c ++ d) ++ (e ++ f)) ∙ ap (λ (t : Bytes). a ++ (b ++ t)) (append-assoc c d (e ++ f))
 
 -- they are what is spoken of a refusal
-all-said : (f : Fault) (n l : ℕ) → n ≡ paperFault f .number → l ≡ paperFault f .line → (((ascii "refused " ++ decimal n) ++ (ascii " line " ++ decimal l)) ++ spokenPlace (paperFault f .place)) ++ lineEnd ≡ spoken (refused (paperFault f))
+all-said : (f : Fault) (n l : ℕ) → n ≡ paperFault f .number → l ≡ paperFault f .line → (((ascii "refused " ++ inDecimal n) ++ (ascii " line " ++ inDecimal l)) ++ spokenPlace (paperFault f .place)) ++ lineEnd ≡ spoken (refused (paperFault f))
 unfolding spoken
-all-said f n l e g = six (ascii "refused ") (decimal n) (ascii " line ") (decimal l) (spokenPlace (paperFault f .place)) lineEnd ∙ rw (e, g)
+all-said f n l e g = six (ascii "refused ") (inDecimal n) (ascii " line ") (inDecimal l) (spokenPlace (paperFault f .place)) lineEnd ∙ rw (e, g)
 
 returns : tie.Need-returns
 returns c =
@@ -104,7 +104,7 @@ returns c =
     let fault = start at-number .args .fault in
     let line = asked .line-of in
     let number = number-asked at-number .number-of in
-    let s = more lineEnd (more (spokenPlace (paperFault fault .place)) (more (ascii " line " ++ decimal (line .result)) (begun (ascii "refused " ++ decimal (number .result)) (at-number .before .before .add-named .ensures)) (at-line .before .before .add-named2 .ensures)) (at-place .add-place .ensures .1)) (c .before .before .add .ensures) in
+    let s = more lineEnd (more (spokenPlace (paperFault fault .place)) (more (ascii " line " ++ inDecimal (line .result)) (begun (ascii "refused " ++ inDecimal (number .result)) (at-number .before .before .add-named .ensures)) (at-line .before .before .add-named2 .ensures)) (at-place .add-place .ensures .1)) (c .before .before .add .ensures) in
     (omega (arith, c .before .before .add .ensures .0, upto-end at-place), s .text ∙ all-said fault (number .result) (line .result) (number .ensures) (line .ensures))
 
 pub compose-refused-spec : {M : Type 1} → statement M

@@ -6,7 +6,7 @@ use mathlib.Core.Path.{_≡_, sym}
 use lib.ListN.{length, take, drop, length-drop}
 use lib.Seq.{length-take-le}
 use Rattle.sieve.specs.Bytes.{Bytes}
-use Rattle.sieve.specs.Mod97.{number}
+use Rattle.sieve.specs.Mod97.{numeral}
 use Rattle.swiss.proofs.Amounts.{Due}
 use Rattle.runs.proofs.Parts.{rest}
 use Rattle.season.proofs.Paying.{nothing-due, line-due}
@@ -26,10 +26,10 @@ is-due c = line-due (text c) (c .before .before .pre) (c .if1 .left)
 
 -- the digits before the point, and those behind it
 
-whole-is : (c : tie.After-decimal) → let s = text (c .before .before) in c .decimal .result ≡ number 0 (take (length s - 3) s)
+whole-is : (c : tie.After-decimal) → let s = text (c .before .before) in c .decimal .result ≡ numeral 0 (take (length s - 3) s)
 whole-is c = let s = text (c .before .before) in rw (sub-zero (length s - 3)) at (c .decimal .ensures)
 
-behind-is : (c : tie.After-decimal2) → let s = text (c .before .before .before .before) in c .decimal2 .result ≡ number 0 (drop (length s - 2) s)
+behind-is : (c : tie.After-decimal2) → let s = text (c .before .before .before .before) in c .decimal2 .result ≡ numeral 0 (drop (length s - 2) s)
 behind-is c = let s = text (c .before .before .before .before) in rw (rest (length s - 2) s) at (c .decimal2 .ensures)
 
 sub-point : tie.Need-sub-point

@@ -6,13 +6,13 @@ use mathlib.Core.Path.{_≡_, sym, _∙_}
 use lib.ListN.{length, take, drop}
 use borrow.Author.Needs.{needs}
 use Rattle.sieve.specs.Characters.{characters}
-use Rattle.shown.specs.Shown.{Plain}
+use Rattle.shown.specs.Shown.{OnePerByte}
 use Rattle.shown.proofs.Plain.{plain-end, plain-earlier, plain-all}
 use Rattle.shown.proofs.plain_from.Statement.{statement}
 use Rattle.shown.proofs.plain_from.Tie as tie
 
 abbrev Inv-loop : tie.InvT-loop
-Inv-loop text at₀ at = (at ≤ length text) × Plain (drop at text)
+Inv-loop text at₀ at = (at ≤ length text) × OnePerByte (drop at text)
 
 abbrev μ-loop : tie.MeasureT-loop
 μ-loop text at₀ at = at

@@ -3,7 +3,7 @@ use mathlib.Core.Bool.{false≢true}
 use mathlib.Core.Path.{_≡_}
 use lib.ListN.{drop}
 use borrow.Author.Needs.{needs}
-use Rattle.shown.specs.Shown.{Plain}
+use Rattle.shown.specs.Shown.{OnePerByte}
 use Rattle.shown.proofs.show.Statement.{statement}
 use Rattle.shown.proofs.show.Tie as tie
 
@@ -13,7 +13,7 @@ plain-from-requires c κs = search needs
 fill-lines-requires : tie.Need-fill-lines-requires
 fill-lines-requires c κs =
     let start = c .before .before .before .before .before .before in
-    let all : Plain (start .args .payload .now) = rw (c .before .if1 .taken) at (c .before .before .plain-from .ensures) in
+    let all : OnePerByte (start .args .payload .now) = rw (c .before .if1 .taken) at (c .before .before .plain-from .ensures) in
     (start .pre, (λ e. all, all))
 
 fill-lines-requires-2 : tie.Need-fill-lines-requires-2

@@ -38,8 +38,8 @@ returns : tie.Need-returns
 returns c =
     let x = c .before .before .before .args .x in
     let high : c .before .before .if1 .high ≡ cond (ltb x 128) 0x7FFFFFE07FFFFFE 0 = ⊎-elim (λ w. w .1 ∙ rw (lt-ltb x 128 (w .0 .taken))) (λ w. w .1 ∙ rw (le-ltb x 128 (w .0 .left))) (c .before .before .if1 .came) in
-    let is : c .before .if2 .set ≡ setOf x = ⊎-elim (λ w. w .1 ∙ rw (lt-ltb x 64 (w .0 .taken))) (λ w. w .1 ∙ rw (le-ltb x 64 (w .0 .left)) high) (c .before .if2 .came) in
-    rw is (each-bit x (search needs))
+    let set-is : c .before .if2 .set ≡ setOf x = ⊎-elim (λ w. w .1 ∙ rw (lt-ltb x 64 (w .0 .taken))) (λ w. w .1 ∙ rw (le-ltb x 64 (w .0 .left)) high) (c .before .if2 .came) in
+    rw set-is (each-bit x (search needs))
 
 pub in-x-spec : {M : Type 1} → statement M
 in-x-spec = tie.close (tie.spec cast-result shr-result returns)

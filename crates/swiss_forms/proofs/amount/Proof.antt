@@ -65,11 +65,11 @@ same-requires c κs = search needs
 first-the-end : (s : Bytes) → 4 ≤ length s
     → let w = take (length s - 3) s in
     amount s ≡ (eqb (getD s (length s - 3) 0) 46 && every digit (drop (length s - 2) s)) && (every digit w && unled w && not (same s (ascii "0.00")))
-first-the-end s h = rw (le-leb 4 (length s) h) (go (every digit (take (length s - 3) s)) _ _ _ _)
+first-the-end s h = rw (le-leb 4 (length s) h) (by-cases (every digit (take (length s - 3) s)) _ _ _ _)
   where
-    go : (w p c u n : Bool) → (w && p && c && u && n) ≡ ((p && c) && (w && u && n))
-    go true p c u n = and-assoc (p && c) u n
-    go false p c u n = sym (and-false (p && c))
+    by-cases : (w p c u n : Bool) → (w && p && c && u && n) ≡ ((p && c) && (w && u && n))
+    by-cases true p c u n = and-assoc (p && c) u n
+    by-cases false p c u n = sym (and-false (p && c))
 
 -- a zero in front is alone
 led : (w : Bytes) → getD w 0 0 ≡ 48 → (every digit w && unled w) ≡ eqb (length w) 1

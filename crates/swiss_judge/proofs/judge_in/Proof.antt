@@ -35,8 +35,8 @@ rules-requires : tie.Need-rules-requires
 rules-requires c κs =
     let at-start = c .before .before .before .before .before .before .before in
     let e = at-start .args .edition in
-    let is = rw (c .before .before .n .given .1) at (by-its-lines (swissIn e) (at-start .args .payload .now) latin refl (c .before .before .before .before .whole .ensures)) in
-    let (listed-is, count-is) = counted (bare (swissIn e)) (at-start .args .payload .now) is (lit≤ tt) in
+    let judged = rw (c .before .before .n .given .1) at (by-its-lines (swissIn e) (at-start .args .payload .now) latin refl (c .before .before .before .before .whole .ensures)) in
+    let (listed-is, count-is) = counted (bare (swissIn e)) (at-start .args .payload .now) judged (lit≤ tt) in
     record { listed = listed-is; counted = count-is }
 
 clear-requires : tie.Need-clear-requires
@@ -48,12 +48,14 @@ fault-of-requires c κs = search needs
 returns : tie.Need-returns
 returns c =
     let at-test = c .before .before .before in
-    let at-start = at-test .before .before .before .before .before .before .before .before .before .before in
+    let at-count = at-test .before .before .before .before .before in
+    let at-whole = at-count .before .before in
+    let at-start = at-whole .before .before .before in
     let e = at-start .args .edition in
-    let is = rw (at-test .before .before .before .before .before .n .given .1) at (by-its-lines (swissIn e) (at-start .args .payload .now) latin refl (at-test .before .before .before .before .before .before .before .whole .ensures)) in
+    let judged = rw (at-count .n .given .1) at (by-its-lines (swissIn e) (at-start .args .payload .now) latin refl (at-whole .whole .ensures)) in
     let found = at-test .before .before .rules .ensures in
     let is-fault = rw (← found, ← c .fault-of .ensures) at (found-fault (ls at-start) (rules e) (rules-numbered e) (rw found at (at-test .if1 .taken))) in
-    broken (bare (swissIn e)) (rules e) (at-start .args .payload .now) is (c .fault-of .result) is-fault refl (c .before .clear .ensures)
+    broken (bare (swissIn e)) (rules e) (at-start .args .payload .now) judged (c .fault-of .result) is-fault refl (c .before .clear .ensures)
 
 returns-2 : tie.Need-returns-2
 returns-2 c =
@@ -63,12 +65,13 @@ returns-2 c =
 
 returns-3 : tie.Need-returns-3
 returns-3 c =
-    let at-whole = c .before .before .before .before .before .before .before in
-    let at-start = c .before .before .before .before .before .before .before .before .before .before in
+    let at-count = c .before .before .before .before .before in
+    let at-whole = at-count .before .before in
+    let at-start = at-whole .before .before .before in
     let e = at-start .args .edition in
-    let is = rw (c .before .before .before .before .before .n .given .1) at (by-its-lines (swissIn e) (at-start .args .payload .now) latin refl (at-whole .whole .ensures)) in
+    let judged = rw (at-count .n .given .1) at (by-its-lines (swissIn e) (at-start .args .payload .now) latin refl (at-whole .whole .ensures)) in
     let found = c .before .before .rules .ensures in
-    kept (bare (swissIn e)) (rules e) (at-start .args .payload .now) is (found-nothing (ls at-start) (rules e) (rules-numbered e) (rw found at (c .if1 .left)))
+    kept (bare (swissIn e)) (rules e) (at-start .args .payload .now) judged (found-nothing (ls at-start) (rules e) (rules-numbered e) (rw found at (c .if1 .left)))
 
 pub judge-in-spec : {M : Type 1} → statement M
 judge-in-spec =

@@ -6,7 +6,7 @@ use Rattle.swiss.specs.Forms.{iban}
 use Rattle.swiss.specs.Swiss.{account}
 use Rattle.findings.specs.Findings.{from}
 use Rattle.findings.proofs.Looking.{looked, numbered, looked-finds}
-use Rattle.swiss_digits.proofs.Digits.{iban-of-digits}
+use Rattle.swiss_forms.proofs.Digits.{iban-of-digits}
 use Rattle.swiss_rules.proofs.Right.{all-right}
 use borrow.Author.Needs.{needs}
 use Rattle.swiss_rules.proofs.account.Statement.{statement}
@@ -27,12 +27,12 @@ iban-requires c κs = search needs
 checks97-requires : tie.Need-checks97-requires
 checks97-requires c κs = search needs
 
-number-requires : tie.Need-number-requires
-number-requires c κs = search needs
+number-found-requires : tie.Need-number-found-requires
+number-found-requires c κs = search needs
 
 returns-2 : tie.Need-returns-2
 unfolding looked numbered
-returns-2 c = rw (c .number .ensures, c .before .checks97 .ensures, c .before .before .iban .ensures) (looked-finds account _ refl)
+returns-2 c = rw (c .number-found .ensures, c .before .checks97 .ensures, c .before .before .iban .ensures) (looked-finds account _ refl)
 
 pub account-spec : {M : Type 1} → statement M
 account-spec =
@@ -42,5 +42,5 @@ account-spec =
     returns
     iban-requires
     checks97-requires
-    number-requires
+    number-found-requires
     returns-2)

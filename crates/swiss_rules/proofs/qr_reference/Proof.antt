@@ -14,12 +14,12 @@ qrr-requires c κs = search needs
 checks10-requires : tie.Need-checks10-requires
 checks10-requires c κs = search needs
 
-number-requires : tie.Need-number-requires
-number-requires c κs = search needs
+number-found-requires : tie.Need-number-found-requires
+number-found-requires c κs = search needs
 
 returns : tie.Need-returns
 unfolding looked numbered
-returns c = rw (c .number .ensures, c .before .checks10 .ensures, c .before .before .qrr .ensures) (looked-finds (referenceOf qrr checks10) _ refl)
+returns c = rw (c .number-found .ensures, c .before .checks10 .ensures, c .before .before .qrr .ensures) (looked-finds (referenceOf qrr checks10) _ refl)
 
 pub qr-reference-spec : {M : Type 1} → statement M
 qr-reference-spec =
@@ -27,5 +27,5 @@ qr-reference-spec =
     (tie.spec
     qrr-requires
     checks10-requires
-    number-requires
+    number-found-requires
     returns)

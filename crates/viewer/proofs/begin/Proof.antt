@@ -21,13 +21,13 @@ enum-known-f c = search needs
 
 returns : tie.Need-returns
 returns c =
-    let is : verdict swiss (c .before .before .before .before .before .args .payload .now) ≡ accepted (c .before .n .given .0 .0) (c .before .n .given .0 .1 .0) = sym (c .before .before .before .verdict .ensures) ∙ ap paper (c .before .n .given .1) in
-    record { at = rw is; answer = rw is }
+    let verdict-is : verdict swiss (c .before .before .before .before .before .args .payload .now) ≡ accepted (c .before .n .given .0 .0) (c .before .n .given .0 .1 .0) = sym (c .before .before .before .verdict .ensures) ∙ ap paper (c .before .n .given .1) in
+    record { at = rw verdict-is; answer = rw verdict-is }
 
 returns-2 : tie.Need-returns-2
 returns-2 c =
-    let is : verdict swiss (c .before .before .before .before .before .args .payload .now) ≡ refused (paperFault (c .before .f .given .0 .0)) = sym (c .before .before .before .verdict .ensures) ∙ ap paper (c .before .f .given .1) in
-    record { at = rw is; answer = rw is }
+    let verdict-is : verdict swiss (c .before .before .before .before .before .args .payload .now) ≡ refused (paperFault (c .before .f .given .0 .0)) = sym (c .before .before .before .verdict .ensures) ∙ ap paper (c .before .f .given .1) in
+    record { at = rw verdict-is; answer = rw verdict-is }
 
 pub begin-spec : {M : Type 1} → statement M
 begin-spec = tie.close (tie.spec add-past verdict-requires enum-known-n enum-known-f returns returns-2)

@@ -8,7 +8,7 @@ use borrow.Author.Needs.{needs}
 use borrow.Author.Tests.{lt-ltb, le-ltb}
 use Rattle.sieve.specs.Bytes.{Bytes}
 use Rattle.viewer.proofs.Onward.{no-bytes}
-use Rattle.text.proofs.LinesAt.{line-is, within}
+use Rattle.lines.proofs.LinesAt.{line-is, within}
 use Rattle.viewer.specs.View.{lineFrom}
 use Rattle.viewer.proofs.line_from.Statement.{statement}
 use Rattle.viewer.proofs.line_from.Tie as tie

@@ -1,4 +1,0 @@
-pub mod Parting
-pub mod Holding
-pub mod Counting
-pub mod OneAnswer

@@ -1,5 +1,0 @@
-pub mod Left
-pub mod Lowest
-pub mod Marked
-pub mod OneAnswer
-pub mod Words

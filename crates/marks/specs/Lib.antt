@@ -1,2 +1,0 @@
-pub mod Marks
-pub mod Words

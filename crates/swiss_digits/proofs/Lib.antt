@@ -1,3 +1,0 @@
-pub mod Digits
-pub mod Letters
-pub mod OneAnswer
