@@ -8,6 +8,7 @@
 
 #include "../tests/host/record.h"
 #include "qrbill.h"
+#include "marking.h"
 
 static struct record given;
 
@@ -32,10 +33,12 @@ static uint32_t call(char kind)
 
 int main(int argc, char **argv)
 {
-    if (argc != 3 || !next_record(&given))
+    if (argc < 3 || !next_record(&given))
         return 1;
     printf("%u\n", call(argv[1][0]));
+    mark(argc);
     for (int left = atoi(argv[2]); left > 0; left--)
         call(argv[1][0]);
+    mark(argc);
     return 0;
 }

@@ -6,13 +6,15 @@ TIMES and with 0; the difference, divided by TIMES, is the count. It holds about
 the loop around the call.
 
 On Arm the kit's emulator translates one instruction at a time and notes each that it runs. On
-x86-64 the program is stepped from instruction to instruction (ptrace). In both ways an instruction
-that repeats itself, as `rep movsb`, counts once for each time.
+x86-64 the program is stepped from instruction to instruction (ptrace), between the two marks that it
+sets around the calls (bench/marking.h); a program that sets none is stepped from its start. In both
+ways an instruction that repeats itself, as `rep movsb`, counts once for each time.
 """
 
 import ctypes
 import os
 import re
+import signal
 import subprocess
 import tempfile
 from pathlib import Path
@@ -21,7 +23,8 @@ import kit
 
 TIMES = 10
 ADDRESS = re.compile(rb'^Trace .*?/(\w+)/', re.MULTILINE)
-PTRACE_TRACEME, PTRACE_SINGLESTEP = 0, 9
+PTRACE_TRACEME, PTRACE_CONT, PTRACE_SINGLESTEP = 0, 7, 9
+MARKED = 'marked'  # a third word: the program is to mark its calls
 ADDR_NO_RANDOMIZE = 0x40000
 
 
@@ -46,7 +49,7 @@ def instructions(program, words, data):
         with given.open('rb') as file:
             if kit.EMULATOR.exists():
                 return noted(program, words, file, Path(folder) / 'log')
-            return stepped(kit.command(program, *words), file)
+            return stepped(kit.command(program, *words, *([MARKED] if words else [])), file, bool(words))
 
 
 def noted(program, words, file, log):
@@ -70,8 +73,9 @@ def trace(program, words, data):
         return ADDRESS.findall(log.read_bytes())
 
 
-def stepped(command, file):
-    """By ptrace: the program stops after each instruction, and is waited for each time."""
+def stepped(command, file, marked):
+    """By ptrace: the program stops after each instruction, and is waited for each time. What stands before
+    the first mark and behind the second runs on its own."""
     c_library = ctypes.CDLL(None, use_errno=True)
     c_library.ptrace.argtypes = 4 * [ctypes.c_long]
     child = os.fork()
@@ -84,13 +88,19 @@ def stepped(command, file):
             os.execv(command[0], command)
         finally:
             os._exit(1)
-    count = 0
-    _, status = os.waitpid(child, 0)  # it stops as it starts
-    while os.WIFSTOPPED(status):
-        if c_library.ptrace(PTRACE_SINGLESTEP, child, 0, 0) != 0:
+
+    def on(request):
+        """Let it run to its next stop, without the signal that it stopped for."""
+        if c_library.ptrace(request, child, 0, 0) != 0:
             raise OSError(ctypes.get_errno(), 'ptrace')
-        _, status = os.waitpid(child, 0)
-        count += 1
-    if status != 0:
+        return os.waitpid(child, 0)[1]
+
+    count, marks = 0, 0 if marked else 1
+    status = os.waitpid(child, 0)[1]  # it stops as it starts
+    while os.WIFSTOPPED(status):
+        marks += os.WSTOPSIG(status) == signal.SIGUSR1
+        status = on(PTRACE_SINGLESTEP if marks == 1 else PTRACE_CONT)
+        count += marks == 1
+    if status != 0 or (marked and marks != 2):
         raise RuntimeError(f'the program ended with status {status}')
     return count

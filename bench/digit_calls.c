@@ -9,6 +9,8 @@
 #include <stdio.h>
 #include <stdlib.h>
 
+#include "marking.h"
+
 uint64_t plain97(const uint8_t *text, size_t length);
 uint64_t table97(const uint8_t *text, size_t length);
 
@@ -22,11 +24,13 @@ static unsigned call(char kind)
 
 int main(int argc, char **argv)
 {
-    if (argc != 3)
+    if (argc < 3)
         return 1;
     length = fread(text, 1, sizeof text, stdin);
     printf("%u\n", call(argv[1][0]));
+    mark(argc);
     for (int left = atoi(argv[2]); left > 0; left--)
         call(argv[1][0]);
+    mark(argc);
     return 0;
 }

@@ -9,6 +9,7 @@
 #include <stdlib.h>
 
 #include "qrbill.h"
+#include "marking.h"
 
 enum { MOST = 40 };
 
@@ -29,10 +30,12 @@ static uint32_t call(char kind, size_t length)
 int main(int argc, char **argv)
 {
     const size_t length = fread(text, 1, MOST, stdin);
-    if (argc != 3)
+    if (argc < 3)
         return 1;
     printf("%u %.40s\n", call(argv[1][0], length), (const char *)destination);
+    mark(argc);
     for (int left = atoi(argv[2]); left > 0; left--)
         call(argv[1][0], length);
+    mark(argc);
     return 0;
 }

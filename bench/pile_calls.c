@@ -11,6 +11,7 @@
 #include <stdlib.h>
 
 #include "qrbill.h"
+#include "marking.h"
 
 enum { MOST_BILLS = 500, MOST_BYTES = 1000 };
 
@@ -52,7 +53,7 @@ static void go_round(char kind)
 int main(int argc, char **argv)
 {
     unsigned accepted = 0;
-    if (argc != 3)
+    if (argc < 3)
         return 1;
     read_bills();
     go_round(argv[1][0]);
@@ -62,7 +63,9 @@ int main(int argc, char **argv)
         printf("%llu %llu\n", (unsigned long long)sums[0], (unsigned long long)sums[1]);
     else
         printf("%u of %u\n", accepted, (unsigned)count);
+    mark(argc);
     for (int left = atoi(argv[2]); left > 0; left--)
         go_round(argv[1][0]);
+    mark(argc);
     return 0;
 }

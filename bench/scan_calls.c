@@ -9,6 +9,7 @@
 #include <stdlib.h>
 
 #include "qrbill.h"
+#include "marking.h"
 
 static uint8_t payload[QRBILL_HELD], held[QRBILL_HELD];
 
@@ -23,12 +24,14 @@ static size_t go_round(size_t length, size_t bytes)
 
 int main(int argc, char **argv)
 {
-    if (argc != 3)
+    if (argc < 3)
         return 1;
     const size_t length = fread(payload, 1, sizeof payload, stdin);
     const size_t bytes = (size_t)atoi(argv[1]);
     printf("%u\n", (unsigned)go_round(length, bytes));
+    mark(argc);
     for (int left = atoi(argv[2]); left > 0; left--)
         go_round(length, bytes);
+    mark(argc);
     return 0;
 }

@@ -1,19 +1,18 @@
-/* The reader and the writer of Swiss QR-bill payloads, and of girocodes, for programs in C, on x86-64
-   Linux.
+/* The reader and the writer of Swiss QR-bill payloads, and of girocodes, for programs in C (C99 or later)
+   and C++, on x86-64 Linux.
 
    Link libcapi.a for the Swiss bill, which `rt staticlib capi` writes to target/staticlib, and
    libgiro_capi.a for the girocode, by `rt staticlib giro_capi`; or both.
 
    What is lent. A payload is `length` bytes at `payload`, of any content and any length; a text, a
    list and a destination are lent in the same way, a list as so many numbers of its type, aligned
-   as such: 16 bits, 32 for the places of a pile, and 64 for sums. No pointer is null, not even where
-   the length is 0.
+   as such: 16 bits, 32 for the places of a pile, and 64 for sums. A pointer may be null where its length
+   is 0: then nothing is read or written through it.
    What stays. The calls only read what is lent as const. The list of qrbill_places and of
    girocode_places, the answers of qrbill_pile, the list and the sums of qrbill_season, the counts of
    qrbill_swift and qrbill_mend and a destination are written to only where the call succeeds, and then
    only in front: what lies behind stays, to the last byte. So it is with the room of qrbill_hand, but
-   that what is written there lies behind what
-   is held.
+   that what is written there lies behind what is held.
    Overlap. What is written to lies apart from all else that is lent to the same call. What is only
    read may overlap.
    Threads. Nothing is kept between calls, nor shared: any number of threads may call at once, also
@@ -29,6 +28,19 @@
 #ifdef __cplusplus
 extern "C" {
 #endif
+
+/* The version of this interface: it changes where a call, an answer or a size does. 1 had lists of 68
+   numbers. */
+#define QRBILL_VERSION 2
+
+/* The most bytes and lines that a bill has, and the fewest lines. A longer payload may be handed over: it is
+   refused under 2 without being read to its end. */
+#define QRBILL_MOST_BYTES 997
+#define QRBILL_FEWEST_LINES 31
+#define QRBILL_MOST_LINES 34
+
+/* The most bills in a call of qrbill_pile and qrbill_season. */
+#define QRBILL_MOST_BILLS 500
 
 /* The numbers of a list of places: start, bytes and characters of each of 34 lines, those of line i
    from number 3 (i - 1) on. A host that kept a list of 68 numbers, start and bytes alone, which is now
@@ -233,6 +245,9 @@ size_t qrbill_hand(uint8_t *held, size_t room, size_t length, const uint8_t *bit
        001 is empty                                 17  the coding is 3 to 8; the line is 3
 
    7, 13 and 18 never come. */
+#define GIROCODE_MOST_BYTES 331
+#define GIROCODE_FEWEST_LINES 7
+#define GIROCODE_MOST_LINES 12
 #define GIROCODE_NUMBERS 24
 
 uint32_t girocode_read(const uint8_t *payload, size_t length);

@@ -1,10 +1,11 @@
-"""The crates, and the tables of docs/CLAIMS.md that are held to them."""
+"""The crates, and the tables of docs/ that are held to them."""
 
 from pathlib import Path
 
 ROOT = Path(__file__).resolve().parent.parent
 CRATES = ROOT / 'crates'
 CLAIMS = ROOT / 'docs' / 'CLAIMS.md'
+ONE_ANSWER = ROOT / 'docs' / 'ONE_ANSWER.md'
 
 
 def section(title):

@@ -3,7 +3,7 @@
 Public is what another crate can call: a `pub fn` of a library's lib.rt, or of a file that is
 declared there by `pub mod`. Each has an `ensures`; a theorem in its crate's proofs/OneAnswer.antt
 whose statement is `OneAnswer` of it and of its contract, with few exceptions, which are listed
-below; and a row in the table of docs/CLAIMS.md, which has no other rows and names one or more wrong
+below; and a row in the table of docs/ONE_ANSWER.md, which has no other rows and names one or more wrong
 programs of its crate. Every wrong program that the claims name, as CRATE/NAME, is there. That the
 theorems are proved and the wrong programs refused is for `rt` to say.
 Prints a line for each failure and at the end `N passed, M failed`.
@@ -13,7 +13,7 @@ import re
 import sys
 from typing import NamedTuple
 
-from claims import CLAIMS, CRATES, ROOT, section
+from claims import CLAIMS, CRATES, ONE_ANSWER, ROOT
 from telling import told
 from wrong_programs import wrong_programs
 
@@ -35,7 +35,7 @@ NAMED_CONTRACT = re.compile(rf'\bfn\.{METHOD_OF}(\w+)\.(?:Reads\.Learnt|clauses)
 # same file, which shows that the contract says just that.
 OWN_READINGS = {('viewer', name) for name in ('open', 'done', 'line', 'next')}
 # Functions that hand out a part of what they were lent. Two such parts are compared by what a
-# program has of them, and not by the ghost name of the reference (docs/CLAIMS.md).
+# program has of them, and not by the ghost name of the reference (docs/ONE_ANSWER.md).
 PARTS = {('viewer', 'line'), ('viewer', 'line_after'), ('places', 'line')}
 
 
@@ -119,7 +119,7 @@ def proof_text(crate):
 
 def table():
     """The rows of the table: crate, function, what its contract fixes, theorem, wrong programs."""
-    for line in section('One answer each').splitlines():
+    for line in ONE_ANSWER.read_text('utf-8').splitlines():
         if line.startswith('| `'):
             crate, function, _, theorem, wrong = (NAME.findall(cell) for cell in line.split('|')[1:-1])
             yield Row(*crate, *function, *theorem, wrong)
@@ -139,7 +139,7 @@ def checks_of_library(crate, rows):
         yield f'{name}: its contract is named', True, function.name in contracts
         form = is_of_form(function, statements.get(function.theorem, ''))
         yield f'{name}: {function.theorem} has the form of such theorems', True, form
-        yield f'{name}: rows in {CLAIMS.name}', 1, [row.key for row in rows].count(function.key)
+        yield f'{name}: rows in {ONE_ANSWER.name}', 1, [row.key for row in rows].count(function.key)
 
 
 def checks_of_claims(rows):

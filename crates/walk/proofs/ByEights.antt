@@ -18,15 +18,15 @@ use Rattle.walk.proofs.Coming.{plain-passed}
 
 -- from one place to another, whatever the set
 pub record Going (s : Bytes) (l : List ℕ) (from : ℕ) (p : Behind) (l′ : List ℕ) (at : ℕ) (p′ : Behind) : Type 0 where
-  pub on : (set : Charset) → Here set s l from p → Here set s l′ at p′
+  pub onward : (set : Charset) → Here set s l from p → Here set s l′ at p′
   pub forward : from ≤ at
 
 pub stays : (s : Bytes) (l : List ℕ) (from : ℕ) (p : Behind) → Going s l from p l from p
-stays s l from p = record { on = λ set h. h; forward = le-refl from }
+stays s l from p = record { onward = λ set h. h; forward = le-refl from }
 
 -- and on to a third
 pub and-on : {s : Bytes} {l l′ l″ : List ℕ} {from at to : ℕ} {p p′ p″ : Behind} → Going s l from p l′ at p′ → Going s l′ at p′ l″ to p″ → Going s l from p l″ to p″
-and-on g h = record { on = λ set here. h .on set (g .on set here); forward = omega (arith, g .forward, h .forward) }
+and-on g h = record { onward = λ set here. h .onward set (g .onward set here); forward = omega (arith, g .forward, h .forward) }
 
 -- the second place may be told in another way
 pub and-on-from : {s : Bytes} {l l′ l″ : List ℕ} {from at place to : ℕ} {p p′ p″ : Behind} → place ≡ at → Going s l from p l′ at p′ → Going s l′ place p′ l″ to p″ → Going s l from p l″ to p″
@@ -34,7 +34,7 @@ and-on-from e g h = and-on g (rw e at h)
 
 -- from the start of a line, as the contract tells it
 pub told : {s : Bytes} {l l′ : List ℕ} {at : ℕ} {p p′ : Behind} → Going s l (p .start) p l′ at p′ → GoneOn s l p l′ (record { passed = p′; at = at })
-told g = record { here = g .on; forward = g .forward }
+told g = record { here = g .onward; forward = g .forward }
 
 -- some of eight bytes are passed, and the marks of the others are left
 pub record Turn (s : Bytes) (l : List ℕ) (from : ℕ) (p : Behind) (l′ : List ℕ) (p′ : Behind) (left : ℕ) : Type 0 where
@@ -56,7 +56,7 @@ module _ (s : Bytes) (l : List ℕ) (from : ℕ) (p : Behind) (l′ : List ℕ) 
       let assoc : from + t .steps + n ≡ from + (t .steps + n) = omega arith in
       let fits : from + t .steps + n ≤ length s = omega (arith, h, eight) in
       let here : (i : ℕ) → i < n → inOne (getD s (from + t .steps + i) 0) ≡ true = λ i k. rw (getD-take 8 (drop from s) (t .steps + i) 0 (omega arith), getD-drop, ← add-assoc from (t .steps) i) at (plain i k) in
-      and-on (t .going) (record { on = λ set k. rw assoc at (plain-passed set s l′ (from + t .steps) p′ n fits here k); forward = omega arith })
+      and-on (t .going) (record { onward = λ set k. rw assoc at (plain-passed set s l′ (from + t .steps) p′ n fits here k); forward = omega arith })
 
   -- on to the first mark, which is at byte n of the eight
   module _ (some : 0 < left) (n : ℕ) (at : n ≡ firstMarked 8 left) where

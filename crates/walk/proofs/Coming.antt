@@ -69,11 +69,11 @@ carriage-return set s at h e =
     (omega arith, (rw two (width-break (ofSet set) (set-lawful set) CrLf (drop (at + 1 + 1) s)), rw two))
   where
     inside : (s : Bytes) (i : ℕ) → getD s i 0 ≢ 0 → i < length s
-    inside s i k = go (ltb i (length s)) refl
+    inside s i k = by-cases (ltb i (length s)) refl
       where
-        go : (b : Bool) → ltb i (length s) ≡ b → i < length s
-        go true f = ltb-true _ _ f
-        go false f = absurd (k (List·getD-eq-default s 0 (ltb-false _ _ f)))
+        by-cases : (b : Bool) → ltb i (length s) ≡ b → i < length s
+        by-cases true f = ltb-true _ _ f
+        by-cases false f = absurd (k (List·getD-eq-default s 0 (ltb-false _ _ f)))
 
 -- what is neither begins no break
 pub no-break : (s : Bytes) (at : ℕ) → getD s at 0 ≢ 10 → eqb (getD s at 0) 13 && eqb (getD (drop at s) 1 0) 10 ≡ false → breakWidth (drop at s) ≡ 0
@@ -83,11 +83,11 @@ no-break s at h e =
     rw (first, ne-eqb (getD s at 0) 10 h, e)
 
 few-listed : (n : ℕ) → n ≤ walkLines → listedOf n ≡ n
-few-listed n h = go (ltb n walkLines) refl
+few-listed n h = by-cases (ltb n walkLines) refl
   where
-    go : (b : Bool) → ltb n walkLines ≡ b → cond b n walkLines ≡ n
-    go true e = refl
-    go false e = omega (arith, ltb-false n walkLines e)
+    by-cases : (b : Bool) → ltb n walkLines ≡ b → cond b n walkLines ≡ n
+    by-cases true e = refl
+    by-cases false e = omega (arith, ltb-false n walkLines e)
 
 many-listed : (n : ℕ) → walkLines ≤ n → listedOf n ≡ walkLines
 many-listed n h = rw (le-ltb n walkLines h)
@@ -96,17 +96,17 @@ many-listed n h = rw (le-ltb n walkLines h)
 module _ (s : Bytes) (l : List ℕ) (start feeds : ℕ) (size : length l ≡ walkNumbers) where
   pub one-noted : (r : LineAt) → IsLineAt s start r → start ≤ length s → length s ≤ greatest → Filled s l start (listedOf feeds) → Filled s (noted l feeds start (r .end - start)) (r .next) (listedOf (feeds + 1))
   unfolding entries
-  one-noted r is h short e = go (ltb feeds walkLines) refl
+  one-noted r is-line-at h short e = by-cases (ltb feeds walkLines) refl
     where
-      go : (b : Bool) → ltb feeds walkLines ≡ b → Filled s (noted l feeds start (r .end - start)) (r .next) (listedOf (feeds + 1))
-      go true few =
+      by-cases : (b : Bool) → ltb feeds walkLines ≡ b → Filled s (noted l feeds start (r .end - start)) (r .next) (listedOf (feeds + 1))
+      by-cases true few =
           let next = few-listed (feeds + 1) (omega (arith, ltb-true feeds walkLines few)) in
-          let end = line-within s start r is h in
+          let end = line-within s start r is-line-at h in
           let at : start % 65536 ≡ start = mod-eq-of-lt (omega arith) in
-          let size-is : (r .end - start) % 65536 ≡ r .end - start = mod-eq-of-lt (omega (arith, is .next)) in
+          let size-is : (r .end - start) % 65536 ≡ r .end - start = mod-eq-of-lt (omega (arith, is-line-at .next)) in
           rw (next, few, at, size-is)
-          (filled-more s l start feeds r is h (ltb-true _ _ few) size (rw few at e))
-      go false many =
+          (filled-more s l start feeds r is-line-at h (ltb-true _ _ few) size (rw few at e))
+      by-cases false many =
           let next = many-listed (feeds + 1) (omega (arith, ltb-false feeds walkLines many)) in
           rw (many, next) (rw many at e)
 
@@ -115,9 +115,9 @@ pub one-absent : (s : Bytes) (l : List ℕ) (i : ℕ) → i < walkLines → leng
 one-absent s l i h size e =
     let (empty, none) = ends s (length s) (omega arith) in
     let r : LineAt = record { end = length s; next = length s } in
-    let is : IsLineAt s (length s) r = record { end = omega arith; next = omega arith } in
+    let is-line-at : IsLineAt s (length s) r = record { end = omega arith; next = omega arith } in
     let nothing : length s - length s ≡ 0 = omega arith in
-    rw (few-listed (i + 1) (omega arith), ← nothing) (filled-more s l (length s) i r is (omega arith) h size (rw (few-listed i (omega arith)) at e))
+    rw (few-listed (i + 1) (omega arith), ← nothing) (filled-more s l (length s) i r is-line-at (omega arith) h size (rw (few-listed i (omega arith)) at e))
 
 pub all-listed : (s : Bytes) (l : List ℕ) (at i : ℕ) → walkLines ≤ i → length l ≡ walkNumbers → Filled s l at (listedOf i) → l ≡ listed s
 all-listed s l at i h size e = filled-all s l at walkLines (omega arith) (omega arith) size (rw (many-listed i h) at e)
@@ -226,16 +226,16 @@ accents-passed s l at passed (suc n) e here =
 -- what is told of a row at a place is passed, or is that no character begins there
 pub row-passed : (set : Charset) (s : Bytes) (l : List ℕ) (at : ℕ) (passed : Behind) (n : ℕ) → n ≡ charactersIn set (drop at s) → n ≢ 0 → Here set s l at passed → Here set s l (at + n) passed
 row-passed Iso8859 s l at passed n e h here = character Iso8859 s l at passed here n e h
-row-passed Latin s l at passed n e h here = go (eqb (accents (drop at s)) 0) refl
+row-passed Latin s l at passed n e h here = by-cases (eqb (accents (drop at s)) 0) refl
   where
-    go : (b : Bool) → eqb (accents (drop at s)) 0 ≡ b → Here Latin s l (at + n) passed
-    go true q = character Latin s l at passed here n (rw q at e) h
-    go false q = rw (rw q at e) (accents-passed s l at passed (accents (drop at s)) refl here)
+    by-cases : (b : Bool) → eqb (accents (drop at s)) 0 ≡ b → Here Latin s l (at + n) passed
+    by-cases true q = character Latin s l at passed here n (rw q at e) h
+    by-cases false q = rw (rw q at e) (accents-passed s l at passed (accents (drop at s)) refl here)
 
 pub no-row : (set : Charset) (t : Bytes) → charactersIn set t ≡ 0 → ofSet set t ≡ 0
 no-row Iso8859 t e = e
-no-row Latin t e = go (eqb (accents t) 0) refl
+no-row Latin t e = by-cases (eqb (accents t) 0) refl
   where
-    go : (b : Bool) → eqb (accents t) 0 ≡ b → latin t ≡ 0
-    go true q = rw q at e
-    go false q = let p = rw q at e in absurd (eqb-false (accents t) 0 q (omega arith))
+    by-cases : (b : Bool) → eqb (accents t) 0 ≡ b → latin t ≡ 0
+    by-cases true q = rw q at e
+    by-cases false q = let p = rw q at e in absurd (eqb-false (accents t) 0 q (omega arith))

@@ -53,7 +53,9 @@ module _ {set : Charset} {s : Bytes} {l : List ℕ} {at : ℕ} {passed : Behind}
     stopped = here .onward ∙ walk-stops (ofSet set) (drop at s) at (λ n. omega (arith, ap length n, length-drop at s)) (passes-other (ofSet set) (drop at s) z ∙ e) ∙ rw (lt-ltb at (length s) h);
   }
 
-  -- nothing is left
-  pub ends-here : length s ≤ at → Arrived set s l (record { passed = passed; at = at })
+  -- nothing is left: it stops behind the last byte
+  pub ends-here : {stop : ℕ} → length s ≤ at → stop ≡ length s → Arrived set s l (record { passed = passed; at = stop })
   unfolding walk
-  ends-here h = record { here = here; stopped = here .onward ∙ rw (drop-of-length-le s h, le-ltb at (length s) h) }
+  ends-here {stop} h e =
+      let end : at ≡ stop = omega (arith, here .within) in
+      record { here = rw end at here; stopped = here .onward ∙ rw (drop-of-length-le s h, e, le-ltb (length s) (length s) (omega arith)) }

@@ -132,11 +132,12 @@ const NONE_PASSED: Behind = Behind {
 // Walks line by line, and in each line character by character, to the first place where neither a character nor a
 // break begins, or behind the last byte. What ends a line is one LF, alone or after CR. Most lines are of characters that
 // are one byte in each set, 20 to 7E, and are passed eight bytes at once; only from where that ends is a line walked by
-// itself.
+// itself. Where it stops is noted there: as a place that lives on behind the loops, `at` costs the compiler a register.
 fn come(s: &[u8], set: Charset, places: &mut [u16; WALK_NUMBERS]) -> Standing
     ensures { λ r. ⌜ Arrived set (now (s .entry)) (now (places .exit)) r ⌝ }
 {
     let mut at = 0;
+    let mut stop = s.len();
     let mut passed = NONE_PASSED;
     'lines: while at < s.len() {
         let standing = pass_lines(s, places, passed);
@@ -160,12 +161,13 @@ fn come(s: &[u8], set: Charset, places: &mut [u16; WALK_NUMBERS]) -> Standing
             }
             let n = characters_in(set, s, at);
             if n == 0 {
+                stop = at;
                 break 'lines;
             }
             at += n;
         }
     }
-    Standing { passed, at }
+    Standing { passed, at: stop }
 }
 
 // How lines are parted of which all but the last are behind the walk, by their number where that is enough: none of the

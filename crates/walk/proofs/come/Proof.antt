@@ -18,16 +18,16 @@ use Rattle.walk.proofs.come.Statement.{statement}
 use Rattle.walk.proofs.come.Tie as tie
 
 abbrev Inv-loop : tie.InvT-loop
-Inv-loop s set places₀ at₀ passed₀ places at passed = (at₀ ≤ at) × Here set s places at passed
+Inv-loop s set places₀ at₀ stop₀ passed₀ places at stop passed = (at₀ ≤ at) × Here set s places at passed × (stop ≡ length s)
 
 abbrev μ-loop : tie.MeasureT-loop
-μ-loop s set places₀ at₀ passed₀ places at passed = length s - at
+μ-loop s set places₀ at₀ stop₀ passed₀ places at stop passed = length s - at
 
 abbrev Inv-lines : tie.InvT-lines
-Inv-lines s set places₀ at₀ passed₀ places at passed = Here set s places at passed × (at < length s → passed .start ≡ at)
+Inv-lines s set places₀ at₀ stop₀ passed₀ places at stop passed = Here set s places at passed × (at < length s → passed .start ≡ at) × (stop ≡ length s)
 
 abbrev μ-lines : tie.MeasureT-lines
-μ-lines s set places₀ at₀ passed₀ places at passed = length s - at
+μ-lines s set places₀ at₀ stop₀ passed₀ places at stop passed = length s - at
 
 -- the outer loop, from the inner one; and from it the bytes and their set
 abbrev lines-of : tie.At-loop Inv-loop μ-loop Inv-lines μ-lines → tie.At-lines Inv-loop μ-loop Inv-lines μ-lines
@@ -41,7 +41,7 @@ set-of a = a .before .before .args .set
 
 -- a line begins, and where the walk has come to behind lines that are passed
 begun : (c : tie.In-lines Inv-loop μ-loop Inv-lines μ-lines) → let a = c .before in Here (set-of a) (text a) (a .lines .places) (a .lines .passed .start) (a .lines .passed)
-begun c = let (here, starts) = c .before .lines .inv in at-start here (starts (c .lines-test .taken))
+begun c = let (here, starts, unstopped) = c .before .lines .inv in at-start here (starts (c .lines-test .taken))
 
 gone : (q : tie.After-pass-lines Inv-loop μ-loop Inv-lines μ-lines) → let a = q .before .before .before in Here (set-of a) (text a) (q .pass-lines .last .1 .0) (q .pass-lines .result .at) (q .pass-lines .result .passed)
 gone q = q .pass-lines .ensures .here _ (begun (q .before .before))
@@ -65,19 +65,19 @@ there : (e : tie.Else1 Inv-loop μ-loop Inv-lines μ-lines) → end-of (e .befor
 there e = omega (arith, behind (e .before) .within, e .if1 .left)
 
 lines-holds : tie.Need-lines-holds Inv-loop μ-loop Inv-lines μ-lines
-lines-holds c = (begins _ _ _, λ h. refl)
+lines-holds c = (begins _ _ _, (λ h. refl), refl)
 
 pass-lines-requires : tie.Need-pass-lines-requires Inv-loop μ-loop Inv-lines μ-lines
 pass-lines-requires c κs = record { set = _; here = begun (c .before) }
 
 loop-holds : tie.Need-loop-holds Inv-loop μ-loop Inv-lines μ-lines
-loop-holds c = (omega arith, gone (c .before))
+loop-holds c = (omega arith, gone (c .before), c .before .before .before .before .lines .inv .2)
 
 lines-less : tie.Need-lines-less Inv-loop μ-loop Inv-lines μ-lines
 lines-less c = omega (arith, c .loop-test .left, c .before .before .before .before .before .lines-test .taken)
 
 lines-again : tie.Need-lines-again Inv-loop μ-loop Inv-lines μ-lines
-lines-again c = (c .before .loop .inv .1, λ h. absurd (omega (arith, c .loop-test .left)))
+lines-again c = (c .before .loop .inv .1, (λ h. absurd (omega (arith, c .loop-test .left))), c .before .loop .inv .2)
 
 sub-plain-run : tie.Need-sub-plain-run Inv-loop μ-loop Inv-lines μ-lines
 sub-plain-run c = search needs
@@ -141,8 +141,8 @@ lines-less-2 c = let e = at-feed (c .before) in omega (arith, there e, onward (t
 
 lines-again-2 : tie.Need-lines-again-2 Inv-loop μ-loop Inv-lines μ-lines
 lines-again-2 c =
-    let (is, noting) = c .pass .ensures in
-    (rw (noting, is) (feed-passed (c .before)), λ h. ap (λ (p : Behind). p .start) is)
+    let (one-more, noting) = c .pass .ensures in
+    (rw (noting, one-more) (feed-passed (c .before)), (λ h. ap (λ (p : Behind). p .start) one-more), turn-of (at-feed (c .before) .before) .loop .inv .2)
 
 feed-after-requires : tie.Need-feed-after-requires Inv-loop μ-loop Inv-lines μ-lines
 feed-after-requires c κs = there (c .before .before)
@@ -161,8 +161,8 @@ lines-less-3 c = let e = at-return (c .before) in omega (arith, there e, onward 
 
 lines-again-3 : tie.Need-lines-again-3 Inv-loop μ-loop Inv-lines μ-lines
 lines-again-3 c =
-    let (is, noting) = c .pass2 .ensures in
-    (rw (noting, is) (return-passed (c .before)), λ h. ap (λ (p : Behind). p .start) is)
+    let (one-more, noting) = c .pass2 .ensures in
+    (rw (noting, one-more) (return-passed (c .before)), (λ h. ap (λ (p : Behind). p .start) one-more), turn-of (at-return (c .before) .before) .loop .inv .2)
 
 characters-in-requires : tie.Need-characters-in-requires Inv-loop μ-loop Inv-lines μ-lines
 characters-in-requires c κs = search needs
@@ -182,13 +182,15 @@ loop-less : tie.Need-loop-less Inv-loop μ-loop Inv-lines μ-lines
 loop-less c = let e = at-row (c .before) in omega (arith, there e, c .if4 .left)
 
 loop-again : tie.Need-loop-again Inv-loop μ-loop Inv-lines μ-lines
-loop-again c = (omega (arith, turn-of (at-row (c .before) .before) .loop .inv .0), on-row c)
+loop-again c =
+    let l = turn-of (at-row (c .before) .before) in
+    (omega (arith, l .loop .inv .0), on-row c, l .loop .inv .2)
 
 returns : tie.Need-returns Inv-loop μ-loop Inv-lines μ-lines
-returns c = ends-here (c .before .lines .inv .0) (c .lines-test .left)
+returns c = ends-here (c .before .lines .inv .0) (c .lines-test .left) (c .before .lines .inv .2)
 
 returns-2 : tie.Need-returns-2 Inv-loop μ-loop Inv-lines μ-lines
-returns-2 c = ends-here (behind (c .before)) (omega (arith, c .if1 .taken))
+returns-2 c = ends-here (behind (c .before)) (omega (arith, c .if1 .taken)) (turn-of (c .before) .loop .inv .2)
 
 returns-3 : tie.Need-returns-3 Inv-loop μ-loop Inv-lines μ-lines
 returns-3 c =

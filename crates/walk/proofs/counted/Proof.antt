@@ -17,8 +17,8 @@ returns-2 : tie.Need-returns-2
 returns-2 c =
     let some = c .before .before in
     let start = some .before .before .before .before in
-    let is = start .pre in
-    rw (is .feeds) (all-returns (start .args .s .now) (λ z. some .if1 .left (is .returns ∙ z)) (sym (is .returns) ∙ c .if2 .taken ∙ is .feeds))
+    let all-behind = start .pre in
+    rw (all-behind .feeds) (all-returns (start .args .s .now) (λ z. some .if1 .left (all-behind .returns ∙ z)) (sym (all-behind .returns) ∙ c .if2 .taken ∙ all-behind .feeds))
 
 parts-requires : tie.Need-parts-requires
 parts-requires c κs = search needs

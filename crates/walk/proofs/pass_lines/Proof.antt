@@ -58,7 +58,7 @@ there : (f : tie.After-first-marked Inv-loop μ-loop Inv-words μ-words) → let
 there f = let l = loop-of f in omega (arith, eight l, in-eight _ _ _ _ _ _ _ (eight l) (l .loop .inv .1) (some f) _ (f .first-marked .ensures))
 
 here : (f : tie.After-first-marked Inv-loop μ-loop Inv-words μ-words) → let l = loop-of f in let b = words-of l .before .before .before .pre in Here (b .set) (text (words-of l)) (l .loop .places) (l .loop .from + f .first-marked .result) (l .loop .p)
-here f = let l = loop-of f in let b = words-of l .before .before .before .pre in from-first l (marked f) .on (b .set) (b .here)
+here f = let l = loop-of f in let b = words-of l .before .before .before .pre in from-first l (marked f) .onward (b .set) (b .here)
 
 -- where a line ends with LF, and where it ends with CR LF
 abbrev at-feed : tie.After-struct-known2 Inv-loop μ-loop Inv-words μ-words → tie.After-first-marked Inv-loop μ-loop Inv-words μ-words
@@ -79,7 +79,7 @@ over-feed : (c : tie.After-struct-known2 Inv-loop μ-loop Inv-words μ-words) �
 over-feed c =
     let f = at-feed c in
     record {
-      on = λ set h. let (z, e) = line-feed set (text (words-of (loop-of f))) _ (there f) (c .before .before .if2 .taken) in a-break-passed set _ _ _ _ h (c .before .pass-arg .given .0 .1) 1 (there f) z e (λ q. omega arith);
+      onward = λ set h. let (z, e) = line-feed set (text (words-of (loop-of f))) _ (there f) (c .before .before .if2 .taken) in a-break-passed set _ _ _ _ h (c .before .pass-arg .given .0 .1) 1 (there f) z e (λ q. omega arith);
       forward = omega arith;
     }
 
@@ -87,15 +87,15 @@ over-return : (c : tie.After-struct-known3 Inv-loop μ-loop Inv-words μ-words) 
 over-return c =
     let f = at-return c in
     let found = c .before .before in
-    let is = rw (found .before .feed-after .ensures) at (found .if3 .taken) in
+    let returned = rw (found .before .feed-after .ensures) at (found .if3 .taken) in
     record {
-      on = λ set h. let (fits, (z, e)) = carriage-return set (text (words-of (loop-of f))) _ (there f) is in a-break-passed set _ _ _ _ h (c .before .pass-arg2 .given .0 .1) 2 (there f) z e (λ q. omega arith);
+      onward = λ set h. let (fits, (z, e)) = carriage-return set (text (words-of (loop-of f))) _ (there f) returned in a-break-passed set _ _ _ _ h (c .before .pass-arg2 .given .0 .1) 2 (there f) z e (λ q. omega arith);
       forward = omega arith;
     }
 
 -- the byte behind that break is no more than the end
 behind-return : (c : tie.After-struct-known3 Inv-loop μ-loop Inv-words μ-words) → let f = at-return c in let l = loop-of f in l .loop .from + f .first-marked .result + 2 ≤ length (text (words-of l))
-behind-return c = let f = at-return c in let b = words-of (loop-of f) .before .before .before .pre in over-return c .on (b .set) (here f) .within
+behind-return c = let f = at-return c in let b = words-of (loop-of f) .before .before .before .pre in over-return c .onward (b .set) (here f) .within
 
 eights-requires : tie.Need-eights-requires Inv-loop μ-loop Inv-words μ-words
 eights-requires c κs = search needs
@@ -138,8 +138,8 @@ loop-again c =
     let k = c .before .before in
     let f = at-feed k in
     let l = loop-of f in
-    let (is, noting) = c .before .pass .ensures in
-    (l .loop .inv .0, rw (c .later-marks .ensures, noting, is) (over-mark _ _ _ _ _ _ _ (eight l) (l .loop .inv .1) (some f) _ (f .first-marked .ensures) _ _ (over-feed k)))
+    let (one-more, noting) = c .before .pass .ensures in
+    (l .loop .inv .0, rw (c .later-marks .ensures, noting, one-more) (over-mark _ _ _ _ _ _ _ (eight l) (l .loop .inv .1) (some f) _ (f .first-marked .ensures) _ _ (over-feed k)))
 
 feed-after-requires : tie.Need-feed-after-requires Inv-loop μ-loop Inv-words μ-words
 feed-after-requires c κs = there (c .before .before .before .before)
@@ -159,8 +159,8 @@ words-less c = let f = at-return (c .before) in omega (arith, there f, loop-of f
 words-again : tie.Need-words-again Inv-loop μ-loop Inv-words μ-words
 words-again c =
     let f = at-return (c .before) in
-    let (is, noting) = c .pass2 .ensures in
-    rw (noting, is) (from-first (loop-of f) (and-on (marked f) (over-return (c .before))))
+    let (one-more, noting) = c .pass2 .ensures in
+    rw (noting, one-more) (from-first (loop-of f) (and-on (marked f) (over-return (c .before))))
 
 returns-2 : tie.Need-returns-2 Inv-loop μ-loop Inv-words μ-words
 returns-2 c = let f = c .before .before .before .before .before .before in told (from-first (loop-of f) (marked f))
