@@ -4,7 +4,7 @@
        counted_calls CALL TIMES < payload
 
    It writes the answer of a first call, what is laid and the counts, and then makes the call TIMES
-   times. CALL, MOST_PAYLOAD and MOST_ROOM are given to the compiler, by tests/counted_calls.py. */
+   times. CALL, MOST_PAYLOAD and MOST_ROOM are given to the compiler, by tests/lib/counted_calls.py. */
 
 #include <stdio.h>
 #include <stdlib.h>

@@ -3,7 +3,7 @@
        make_bill account=CH5800791123000889012 name='Schule Muster' postcode=8000 town=Seldwyla \
                  country=CH amount=199.95 currency=CHF type=SCOR reference=RF18539007547034
 
-   or says why there is no such bill. The fields lie one after another in a text, and a list says
+   or says on standard error why there is no such bill. The fields lie one after another in a text, and a list says
    where: the writer joins them, once every rule is kept. */
 
 #include <stdint.h>
@@ -75,14 +75,14 @@ int main(int argc, char **argv)
 
     for (int i = 1; i < argc; i++)
         if (!take(argv[i])) {
-            printf("no field %s\n", argv[i]);
+            fprintf(stderr, "no field %s\n", argv[i]);
             return 2;
         }
     complete();
     for (uint8_t line = 1; line <= LINES; line++) {
         size_t size = strlen(lines[line]);
         if (size > sizeof text - end) {
-            printf("refused 2 line 0\n"); /* more than any bill may have */
+            fprintf(stderr, "refused 2 line 0\n"); /* more than any bill may have */
             return 1;
         }
         memcpy(text + end, lines[line], size);
@@ -96,7 +96,7 @@ int main(int argc, char **argv)
     uint32_t answer = qrbill_write(text, end, list, QRBILL_NUMBERS, count, false, payload,
                                    sizeof payload);
     if (answer >= 1000) {
-        printf("refused %u line %u\n", answer / 1000, answer % 1000);
+        fprintf(stderr, "refused %u line %u\n", answer / 1000, answer % 1000);
         return 1;
     }
     fwrite(payload, 1, answer, stdout);

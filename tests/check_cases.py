@@ -5,6 +5,9 @@ Prints a line for each failure and at the end `N passed, M failed`.
 """
 
 import sys
+from pathlib import Path
+
+sys.path.insert(0, str(Path(__file__).resolve().parent / 'lib'))
 
 from casefile import BREAKS, FOLDER, CaseFileError, read_cases
 from digit_texts import digit_checks

@@ -7,6 +7,9 @@ end `N passed, M failed`.
 
 import re
 import sys
+from pathlib import Path
+
+sys.path.insert(0, str(Path(__file__).resolve().parent / 'lib'))
 
 from casefile import bill_lines
 from damage import BILLS, damaged

@@ -12,6 +12,9 @@ of 2.4, so these records go through a program. Prints a line for each difference
 import subprocess
 import sys
 from collections import Counter
+from pathlib import Path
+
+sys.path.insert(0, str(Path(__file__).resolve().parent / 'lib'))
 
 import kit
 from casefile import BREAKS

@@ -2,7 +2,7 @@
 
 A capital letter is for edition 2.4, a small one for 2.2, of which a viewer hands out nothing.
 R and a payload: those of all cases, in their order, and runs of characters and breaks. W and a call of
-the writer: those of tests/writer_calls.py. S and a payload that comes in bits: a few bills, each cut in
+the writer: those of tests/lib/writer_calls.py. S and a payload that comes in bits: a few bills, each cut in
 several ways. What is to be written is the reference's answer with the byte's place, and of a payload
 what a viewer hands out, or of one in bits the list. Of a payload only the first 2,000 bytes are stored:
 past 997 it does not matter how many there are.
@@ -14,6 +14,8 @@ record. It prints a line for each failure and at the end `N passed, M failed`.
 import sys
 from itertools import zip_longest
 from pathlib import Path
+
+sys.path.insert(0, str(Path(__file__).resolve().parent / 'lib'))
 
 from casefile import read_cases
 from framing import framed, number, records

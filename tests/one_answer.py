@@ -11,7 +11,10 @@ Prints a line for each failure and at the end `N passed, M failed`.
 
 import re
 import sys
+from pathlib import Path
 from typing import NamedTuple
+
+sys.path.insert(0, str(Path(__file__).resolve().parent / 'lib'))
 
 from claims import CLAIMS, CRATES, ONE_ANSWER, ROOT
 from telling import told

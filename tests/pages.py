@@ -2,7 +2,7 @@
 
 In CLAIMS, DECISIONS, ONE_ANSWER, SOURCES, TOUR, RULES and README every path that begins with a folder of the
 repository is there, and so is every name that stands before its path in brackets, as `name` (`path`).
-Commands of TOUR that stand behind a dollar sign answer what the page says. Each landing's note has
+Commands of README, TOUR and CHECK-US that stand behind a dollar sign answer what the page says. Each landing's note has
 the check's time before it and another, and no word in capitals alone that waits to be filled in.
 Prints a line for each failure and at the end `N passed, M failed`.
 """
@@ -10,6 +10,9 @@ Prints a line for each failure and at the end `N passed, M failed`.
 import re
 import subprocess
 import sys
+from pathlib import Path
+
+sys.path.insert(0, str(Path(__file__).resolve().parent / 'lib'))
 
 from claims import ROOT
 from telling import told
@@ -52,10 +55,11 @@ def checks_of_paths(page):
 
 
 def checks_of_commands():
-    """The commands of the tour, each with what it answers."""
-    for command, answer in RUN.findall((DOCS / 'TOUR.md').read_text('utf-8')):
-        ran = subprocess.run(command, shell=True, cwd=ROOT, stdout=subprocess.PIPE, text=True, check=False)
-        yield f'TOUR: {command}', re.sub('(?m)^    ', '', answer), ran.stdout
+    """The commands of README, TOUR and CHECK-US that show an answer, each with that."""
+    for page in (ROOT / 'README.md', DOCS / 'TOUR.md', DOCS / 'CHECK-US.md'):
+        for command, answer in RUN.findall(page.read_text('utf-8')):
+            ran = subprocess.run(command, shell=True, cwd=ROOT, stdout=subprocess.PIPE, text=True, check=False)
+            yield f'{page.name}: {command}', re.sub('(?m)^    ', '', answer), ran.stdout
 
 
 def checks_of_landings():

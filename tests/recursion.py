@@ -8,12 +8,15 @@ Prints a line for each failure and at the end `N passed, M failed`.
 
 import re
 import sys
+from pathlib import Path
+
+sys.path.insert(0, str(Path(__file__).resolve().parent / 'lib'))
 
 from claims import CRATES
 from telling import told
 from wrong_programs import FUNCTION
 
-CALL = re.compile(r'\b(?P<name>[a-z_]\w*)\(')
+CALL = re.compile(r'(?:\b(?P<of>\w+)::)?\b(?P<name>[a-z_]\w*)\(')
 
 
 def bodies(text):
@@ -25,10 +28,12 @@ def bodies(text):
 
 def calls_of(crate):
     """For each function of a crate those of the crate that it calls."""
-    found = [pair for file in sorted((crate / 'src').glob('**/*.rt'))
-             for pair in bodies(file.read_text('utf-8'))]
+    files = sorted((crate / 'src').glob('**/*.rt'))
+    found = [pair for file in files for pair in bodies(file.read_text('utf-8'))]
     names = {name for name, _ in found}
-    return {name: {call['name'] for call in CALL.finditer(text)} & names for name, text in found}
+    others = {path.name for path in CRATES.iterdir()} - {file.stem for file in files}
+    return {name: {call['name'] for call in CALL.finditer(text) if call['of'] not in others} & names
+            for name, text in found}
 
 
 def reached(calls, name):

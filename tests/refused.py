@@ -2,7 +2,7 @@
 
 A wrong program keeps the code's shape and changes its meaning. So what is refused first is a fact
 of the proof, and not a name or a field that the change took away, nor a need that the prover's log
-says to hold all the same. Where several are tried in one check (tests/wrong_programs.py), this is
+says to hold all the same. Where several are tried in one check (tests/lib/wrong_programs.py), this is
 asked of each function that is changed, and no other function has a refusal of its own. Each lazy
 program in the table of docs/CLAIMS.md is refused first at the line that the table gives.
 
@@ -15,6 +15,9 @@ Prints a line for each failure and at the end `N passed, M failed`.
 
 import re
 import sys
+from pathlib import Path
+
+sys.path.insert(0, str(Path(__file__).resolve().parent / 'lib'))
 
 from claims import ROOT, section
 from telling import told

@@ -22,6 +22,8 @@ from pathlib import Path
 from string import ascii_letters, ascii_uppercase, digits
 from typing import NamedTuple
 
+sys.path.insert(0, str(Path(__file__).resolve().parent / 'lib'))
+
 import kit
 from casefile import base_bill
 from chance import Dice

@@ -2,8 +2,8 @@
 
     python3 tests/wrong_rules.py [swiss|girocode] [WORD]
 
-tries those of one layout or of both (tests/wrong_swiss.py, tests/wrong_girocode.py, and with each
-tests/wrong_shared.py), or only those whose name has that word. Each is tried on a copy that has the
+tries those of one layout or of both (tests/lib/wrong_swiss.py, tests/lib/wrong_girocode.py, and with each
+tests/lib/wrong_shared.py), or only those whose name has that word. Each is tried on a copy that has the
 definitions of `sieve` and of the layout and its two tables, and no other claim, no proof, no function
 and no worked example. There the prover is asked to show that a row of the tables is wrong: it must
 fail for the rules as they are, and succeed for each wrong rule. The girocode's take 15 minutes of
@@ -18,6 +18,8 @@ import sys
 import tempfile
 from multiprocessing import Pool
 from pathlib import Path
+
+sys.path.insert(0, str(Path(__file__).resolve().parent / 'lib'))
 
 import wrong_girocode
 import wrong_swiss
@@ -148,6 +150,9 @@ def wanted(layouts, word):
 
 def main(words):
     """Try them; the exit status is 1 if any is not refused."""
+    if any(word in ('-h', '--help') for word in words):
+        print(__doc__)
+        return 0
     layouts = [words.pop(0)] if words and words[0] in LAYOUTS else list(LAYOUTS)
     with tempfile.TemporaryDirectory() as folder, Pool(PROCESSES, Copies.begin, [folder]) as pool:
         tries = [pool.apply_async(tried, one) for one in wanted(layouts, ' '.join(words))]

@@ -5,7 +5,7 @@
    payload, the room for the destination and how many numbers are lent for the counts, and then the
    payload. What is lent ends at a wall each, and both rooms are full of marks before the call, as is
    what lies in front of them. The host ends with status 1 where the call changed the payload.
-   CALL, MOST_PAYLOAD and MOST_ROOM are given to the compiler, by tests/counted_calls.py. */
+   CALL, MOST_PAYLOAD and MOST_ROOM are given to the compiler, by tests/lib/counted_calls.py. */
 
 #include <stdbool.h>
 #include <stdint.h>

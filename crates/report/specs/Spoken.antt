@@ -10,8 +10,8 @@ use Rattle.sieve.specs.declared.Fault.{Fault}
 use Rattle.sieve.specs.Bytes.{Bytes, ascii}
 use Rattle.sieve.specs.Decimal.{decimalIn}
 use Rattle.sieve.specs.Paper.{paperFault}
+use Rattle.sieve.specs.Rules.{Layout}
 use Rattle.sieve.specs.Verdict.{Verdict, accepted, refused, verdict}
-use Rattle.swiss.specs.Swiss.{swiss}
 
 -- a number in decimal digits, with no zeros in front: any number of 64 bits has at most 20
 unfoldable pub inDecimal : ℕ → Bytes
@@ -37,9 +37,9 @@ spoken (refused r) = ascii "refused " ++ (inDecimal (r .number) ++ (ascii " line
 abbrev pub spokenFault : Fault → Bytes
 spokenFault f = spokenPlace (paperFault f .place)
 
--- so of a payload that is lent
-abbrev pub spokenOf : Both (RefT Bytes) (RefT Bytes) → Bytes
-spokenOf payload = spoken (verdict swiss (now (payload .entry)))
+-- so of a payload that is lent, under a layout
+abbrev pub spokenIn : Layout → Both (RefT Bytes) (RefT Bytes) → Bytes
+spokenIn L payload = spoken (verdict L (now (payload .entry)))
 
 -- every number that is spoken has at most three digits
 abbrev pub ThreeDigits : Verdict → Type 0

@@ -1,11 +1,10 @@
-// The line that the program writes of a payload: what the reader answers.
+// The line that the program writes of a payload: what the reader of its layout answers.
 use runs::lay;
 use sieve::Answer;
 use sieve::Break;
 use sieve::Fault;
 use sieve::line_of;
 use sieve::number_of;
-use swiss_judge::verdict;
 ghost use mathlib.Core.List.{_++_};
 ghost use mathlib.Core.Option.{Option·getD};
 ghost use mathlib.Core.Path.{_≡_};
@@ -13,9 +12,11 @@ ghost use Prim.Native.Nat.{_+_, _≤_, _<_};
 ghost use lib.ListN.{length, take};
 ghost use Rattle.sieve.specs.Paper.{paper, paperFault};
 ghost use Rattle.sieve.specs.Verdict.{accepted, refused};
-ghost use Rattle.runs.specs.Laid.{fitting, overFitting};
 ghost use Rattle.sieve.specs.Decimal.{digitByte};
-ghost use Rattle.report.specs.Spoken.{inDecimal, spokenFault, spoken, spokenOf, ThreeDigits};
+ghost use Rattle.swiss.specs.Swiss.{swiss};
+ghost use Rattle.girocode.specs.Girocode.{girocode};
+ghost use Rattle.runs.specs.Laid.{fitting, overFitting};
+ghost use Rattle.report.specs.Spoken.{inDecimal, spokenFault, spoken, spokenIn, ThreeDigits};
 
 // Lays a text behind the first `at` bytes of a line, and answers where it ends.
 fn add(line: &mut [u8], at: usize, text: &[u8]) -> usize
@@ -109,15 +110,33 @@ fn compose(line: &mut [u8], answer: Answer) -> usize
     }
 }
 
-// Lays the line in the front of `dest`, and answers how many bytes it has; none where they do not fit, and `dest` stays
-// as it is. That they lie in `dest` follows, and is said so that a caller can take them out of it.
-pub fn report(payload: &[u8], dest: &mut [u8]) -> usize
-    ensures { λ r. ⌜ r ≡ fitting (now (dest .entry)) (spokenOf payload) ⌝ }
-    ensures { λ _. ⌜ now (dest .exit) ≡ overFitting (now (dest .entry)) (spokenOf payload) ⌝ }
+// Lays the line of an answer in the front of `dest`, and answers how many bytes it has; none where they do not fit, and
+// `dest` stays as it is. That they lie in `dest` follows, and is said so that a caller can take them out of it.
+fn lay_answer(answer: Answer, dest: &mut [u8]) -> usize
+    requires { ⌜ ThreeDigits (paper answer) ⌝ }
+    ensures { λ r. ⌜ r ≡ fitting (now (dest .entry)) (spoken (paper answer)) ⌝ }
+    ensures { λ _. ⌜ now (dest .exit) ≡ overFitting (now (dest .entry)) (spoken (paper answer)) ⌝ }
     ensures { λ r. ⌜ r ≤ length (now (dest .exit)) ⌝ }
 {
-    let answer = verdict(payload);
     let mut line = [0u8; 32];
     let n = compose(&mut line, answer);
     lay(dest, &line[0..n])
+}
+
+// Lays the line of a payload that is read as a Swiss bill, as `lay_answer` does.
+pub fn report(payload: &[u8], dest: &mut [u8]) -> usize
+    ensures { λ r. ⌜ r ≡ fitting (now (dest .entry)) (spokenIn swiss payload) ⌝ }
+    ensures { λ _. ⌜ now (dest .exit) ≡ overFitting (now (dest .entry)) (spokenIn swiss payload) ⌝ }
+    ensures { λ r. ⌜ r ≤ length (now (dest .exit)) ⌝ }
+{
+    lay_answer(swiss_judge::verdict(payload), dest)
+}
+
+// Lays the line of a payload that is read as a girocode, as `lay_answer` does.
+pub fn report_girocode(payload: &[u8], dest: &mut [u8]) -> usize
+    ensures { λ r. ⌜ r ≡ fitting (now (dest .entry)) (spokenIn girocode payload) ⌝ }
+    ensures { λ _. ⌜ now (dest .exit) ≡ overFitting (now (dest .entry)) (spokenIn girocode payload) ⌝ }
+    ensures { λ r. ⌜ r ≤ length (now (dest .exit)) ⌝ }
+{
+    lay_answer(giro_judge::verdict(payload), dest)
 }

@@ -1,14 +1,8 @@
--- `report::report` meets its contract: the line is composed in a buffer of its own, and then laid. Assumes nothing.
-use Prim.Native.Nat.{_-_}
-use native.Mathlib.Nat.{sub-zero}
-use native.Mathlib.Omega.{arith}
-use mathlib.Core.Path.{_≡_, refl, ap, _∙_}
-use lib.ListN.{take}
-use Rattle.sieve.specs.Verdict.{verdict}
-use Rattle.swiss.specs.Swiss.{swiss}
-use Rattle.runs.proofs.Lays.{room-fits}
-use Rattle.report.specs.Spoken.{spoken}
-use Rattle.report.proofs.Promise.{short}
+-- `report::report` meets its contract. Assumes nothing.
+use mathlib.Core.Path.{sym}
+use Rattle.sieve.specs.Paper.{paper}
+use Rattle.swiss.proofs.Serves.{swiss-serves}
+use Rattle.report.proofs.Promise.{three-digits}
 use borrow.Author.Needs.{needs}
 use Rattle.report.proofs.report.Statement.{statement}
 use Rattle.report.proofs.report.Tie as tie
@@ -16,36 +10,16 @@ use Rattle.report.proofs.report.Tie as tie
 verdict-requires : tie.Need-verdict-requires
 verdict-requires c κs = search needs
 
-slice-aggregate-compose : tie.Need-slice-aggregate-compose
-slice-aggregate-compose c = search needs
-
-compose-requires : tie.Need-compose-requires
-compose-requires c κs = (short (c .before .before .before .before .args .payload .now) (c .before .verdict .result) (c .before .verdict .ensures), refl)
-
-sub-lay : tie.Need-sub-lay
-sub-lay c = search needs
-
-part-lay-start : tie.Need-part-lay-start
-part-lay-start c = search needs
-
-part-lay-end : tie.Need-part-lay-end
-part-lay-end c = search needs
-
-lay-requires : tie.Need-lay-requires
-lay-requires c κs = search needs
+lay-answer-requires : tie.Need-lay-answer-requires
+lay-answer-requires c κs =
+    let v = c .before .verdict in
+    three-digits swiss-serves (c .before .before .before .before .args .payload .now) (paper (v .result)) (sym (v .ensures))
 
 same-length : tie.Need-same-length
 same-length c = search needs
 
 returns : tie.Need-returns
-returns c =
-    let at-compose = c .before .before .before .before .before .before .before in
-    let at-verdict = at-compose .before .before in
-    let at-start = at-verdict .before .before .before in
-    let f = at-compose .compose in
-    let said : take (f .result - 0) (f .last .0) ≡ spoken (verdict swiss (at-start .args .payload .now)) = rw (sub-zero (f .result)) (f .ensures .1 ∙ ap spoken (at-verdict .verdict .ensures)) in
-    let l = c .before .before .lay in
-    rw (← said) (l .ensures .0, (l .ensures .1, omega (arith, l .ensures .0, room-fits (at-start .args .dest .now) (take (f .result - 0) (f .last .0)))))
+returns c = rw (← c .before .before .before .before .verdict .ensures) (c .before .before .lay-answer .ensures)
 
 pub report-spec : {M : Type 1} → statement M
-report-spec = tie.close (tie.spec verdict-requires slice-aggregate-compose compose-requires sub-lay part-lay-start part-lay-end lay-requires same-length returns)
+report-spec = tie.close (tie.spec verdict-requires lay-answer-requires same-length returns)

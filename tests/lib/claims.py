@@ -2,7 +2,7 @@
 
 from pathlib import Path
 
-ROOT = Path(__file__).resolve().parent.parent
+ROOT = Path(__file__).resolve().parent.parent.parent
 CRATES = ROOT / 'crates'
 CLAIMS = ROOT / 'docs' / 'CLAIMS.md'
 ONE_ANSWER = ROOT / 'docs' / 'ONE_ANSWER.md'

@@ -31,9 +31,9 @@ for C are asked by their own names: `qrbill_places` and `girocode_places` as `re
 and `qrbill_season` as `season`, with how many are lent for the sums.
 
 A payload is `case NAME`, or `case NAME with N: TEXT`, where line N is another; every text is written as
-in case files (tests/casefile.py), and so is an answer. It has the lent memory: 7777 and `_` stand where
+in case files (tests/lib/casefile.py), and so is an answer. It has the lent memory: 7777 and `_` stand where
 nothing was written, and of long memory the front and the end are shown. But for the program itself
-all is asked by tests/asked_program.txt.
+all is asked by tests/lib/asked_program.txt.
 """
 
 import re

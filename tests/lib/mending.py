@@ -1,4 +1,4 @@
-"""Mangled payloads that are mended by the C host (tests/counted_calls.py), and the reference beside it."""
+"""Mangled payloads that are mended by the C host (tests/lib/counted_calls.py), and the reference beside it."""
 
 from itertools import product
 

@@ -10,7 +10,7 @@ import subprocess
 from functools import cache
 from pathlib import Path
 
-ROOT = Path(__file__).resolve().parent.parent
+ROOT = Path(__file__).resolve().parent.parent.parent
 TARGET = 'x86_64-unknown-linux-gnu'
 GUIDE = subprocess.run(['rt', 'doc'], check=True, stdout=subprocess.PIPE, text=True).stdout.strip()
 OWN = Path(GUIDE).parent.parent / 'on' / platform.machine()

@@ -35,7 +35,7 @@ from functools import cache
 from pathlib import Path
 from typing import NamedTuple
 
-FOLDER = Path(__file__).resolve().parent / 'cases'
+FOLDER = Path(__file__).resolve().parent.parent / 'cases'
 BREAKS = {'LF': b'\n', 'CRLF': b'\r\n'}
 
 HEAD = re.compile(r'(bill|case) (\S+)')

@@ -2,7 +2,7 @@
 
 A damaged bill is an accepted payload of the case files with one to three damages.
 
-As a command, `python3 tests/damage.py [SEED [COUNT]]`, it prints how often each answer comes.
+As a command, `python3 tests/lib/damage.py [SEED [COUNT]]`, it prints how often each answer comes.
 """
 
 import re

@@ -1,4 +1,4 @@
-"""Bills whose SWIFT fields are made by the C host (tests/counted_calls.py), and the reference beside it."""
+"""Bills whose SWIFT fields are made by the C host (tests/lib/counted_calls.py), and the reference beside it."""
 
 from casefile import bill_lines
 from chance import Dice
