@@ -1,4 +1,4 @@
-/* Makes a call that gives counts beside its number, CALL, again and again, for bench/counted.py to
+/* Makes a call that gives counts beside its number, CALL, again and again, for bench/lib/counted.py to
    count instructions:
 
        counted_calls CALL TIMES < payload

@@ -122,8 +122,8 @@ _WORDS = {
     13: 'message and billing information together have over 140 characters',
     14: 'its place lies outside what is lent',
     15: 'there is too little room',
-    16: 'there is no amount',
-    17: 'a coding of 3 to 8 is not read',
+    16: 'the bill has no amount',
+    17: 'the coding is not read',
     18: 'it has another number of characters than the list says',
 }
 _PILE_WORDS = {**_WORDS, 5: 'there are over 500 bills'}

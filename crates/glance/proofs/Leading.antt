@@ -23,13 +23,13 @@ module _ (k : Break) where
       let r = leading k (m ∷ ls) t in
       rw (cut-clean l (breakBytes k ++ r) (h l (List·Memᴰ·head refl)), cut-break k r, cut-leading m ls t (λ n i. h n (List·Memᴰ·tail i)), append-nil)
 
-  parted : (ls : List Bytes) (t : Bytes) → leading k ls t ≡ leading k ls [] ++ t
-  parted [] t = refl
-  parted (l ∷ ls) t = rw (parted ls t) (simp append-assoc)
+  then-rest : (ls : List Bytes) (t : Bytes) → leading k ls t ≡ leading k ls [] ++ t
+  then-rest [] t = refl
+  then-rest (l ∷ ls) t = rw (then-rest ls t) (simp append-assoc)
 
   -- some bytes more than the lines and their breaks have
   pub take-leading : (ls : List Bytes) (t : Bytes) (n : ℕ) → take (length (leading k ls []) + n) (leading k ls t) ≡ leading k ls (take n t)
-  take-leading ls t n = ap (take (length (leading k ls []) + n)) (parted ls t) ∙ take-append-add (leading k ls []) t n ∙ sym (parted ls (take n t))
+  take-leading ls t n = ap (take (length (leading k ls []) + n)) (then-rest ls t) ∙ take-append-add (leading k ls []) t n ∙ sym (then-rest ls (take n t))
 
   pub length-leading : (l : Bytes) (ls : List Bytes) → length (leading k (l ∷ ls) []) ≡ length l + length (breakBytes k) + length (leading k ls [])
   length-leading l ls = omega (arith, length-append l (breakBytes k ++ leading k ls []), length-append (breakBytes k) (leading k ls []))

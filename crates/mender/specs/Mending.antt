@@ -79,7 +79,7 @@ pub record IsMendedBy (m : Mend) (dest : Bytes) (o : Option Refusal) (r : Mended
   pub answer : paperMended r ≡ mendedOnto m dest o .answer
   pub lent : after ≡ mendedOnto m dest o .lent
 
--- the same where room alone is left to ask for, and where the reader is asked first
+-- what is answered where room alone is left to ask for, and where the reader is asked first
 
 abbrev pub EndsByRoom : Mend → Bytes → Mended → Bytes → Type 0
 EndsByRoom m dest r after = IsMendedBy m dest (noRoom (length dest) (length (m .bytes))) r after

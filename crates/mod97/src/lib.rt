@@ -186,7 +186,7 @@ fn remainder97_by(table: &[u8; 970], s: &[u8]) -> u64
     run_by_two(table, r, &s[0..4]) as u64
 }
 
-// The same, by a table of its own.
+// The remainder by 97 of a text, its first four characters moved to its end, by a table of its own.
 pub fn remainder97_by_table(s: &[u8]) -> u64
     ensures { λ r. ⌜ r ≡ remainder97 (now (s .entry)) ⌝ }
 {

@@ -46,7 +46,7 @@ unfoldable pub handedAll : Scan → List Bytes → Scan
 handedAll t [] = t
 handedAll t (b ∷ bs) = handedAll (handedOver t b) bs
 
--- the same in a room that is lent, whatever is in it: its length is 0 before the first bit
+-- bit after bit in a room that is lent, whatever is in it: its length is 0 before the first bit
 abbrev pub handedInto : Bytes → List Bytes → Scan
 handedInto room bits = handedAll (heldIn room 0) bits
 

@@ -12,14 +12,14 @@ use Rattle.sieve.specs.Characters.{characters}
 use Rattle.shown.specs.Shown.{OnePerByte, OnePerByteIf}
 use Rattle.runs.proofs.Counts.{characters-few, characters-parted}
 
-parted : (k : ℕ) (s : Bytes) → length s ≡ length (take k s) + length (drop k s)
-parted k s = sym (ap length (take-append-drop k s)) ∙ length-append (take k s) (drop k s)
+in-two-parts : (k : ℕ) (s : Bytes) → length s ≡ length (take k s) + length (drop k s)
+in-two-parts k s = sym (ap length (take-append-drop k s)) ∙ length-append (take k s) (drop k s)
 
 front : (k : ℕ) (s : Bytes) → OnePerByte s → OnePerByte (take k s)
-front k s e = omega (arith, characters-parted k s, parted k s, characters-few (take k s), characters-few (drop k s))
+front k s e = omega (arith, characters-parted k s, in-two-parts k s, characters-few (take k s), characters-few (drop k s))
 
 back : (k : ℕ) (s : Bytes) → OnePerByte s → OnePerByte (drop k s)
-back k s e = omega (arith, characters-parted k s, parted k s, characters-few (take k s), characters-few (drop k s))
+back k s e = omega (arith, characters-parted k s, in-two-parts k s, characters-few (take k s), characters-few (drop k s))
 
 pub plain-part : (n k : ℕ) (s : Bytes) → OnePerByte s → OnePerByte (take n (drop k s))
 plain-part n k s e = front n (drop k s) (back k s e)
@@ -47,7 +47,7 @@ plain-earlier k at s h e f =
     let from = drop (at - k) s in
     let sum : at - k + k ≡ at = omega arith in
     let rest : drop k from ≡ drop at s = drop-drop k (at - k) s ∙ ap (λ (m : ℕ). drop m s) sum in
-    omega (arith, characters-parted k from, parted k from, characters-few (take k from), length-take k from, ap characters rest, ap length rest)
+    omega (arith, characters-parted k from, in-two-parts k from, characters-few (take k from), length-take k from, ap characters rest, ap length rest)
 
 -- so it is plain where all bytes before that place are characters
 pub plain-all : (at : ℕ) (s : Bytes) → characters (take at s) ≡ at → OnePerByte (drop at s) → OnePerByte s

@@ -5,7 +5,9 @@ use mathlib.Core.List.{List, [], _∷_}
 use mathlib.Core.Option.{Option, some, none}
 use mathlib.Core.Path.{_≡_}
 use lib.ListN.{length, getD, drop}
-use Rattle.sieve.specs.Bytes.{Bytes}
+use denote.Ref.{RefT, now}
+use denote.Triple.Both.{Both}
+use Rattle.sieve.specs.Bytes.{Bytes, over}
 use Rattle.sieve.specs.Characters.{characters}
 use Rattle.sieve.specs.Rules.{Measure}
 use Rattle.sieve.specs.Verdict.{Refusal}
@@ -48,6 +50,10 @@ unfoldable pub withCounts : Bytes → ℕ → List ℕ → List ℕ
 withCounts text zero list = []
 withCounts text (suc n) list =
     getD list 0 0 ∷ getD list 1 0 ∷ characters (part text (record { start = getD list 0 0; bytes = getD list 1 0 })) ∷ withCounts text n (drop 2 list)
+
+-- a list with these in its front, of what a call is lent
+abbrev pub shownOver : (list payload places : Both (RefT (List ℕ)) (RefT (List ℕ))) → List ℕ
+shownOver list payload places = over (now (list .entry)) (withCounts (now (payload .entry)) walkLines (now (places .entry)))
 
 -- each of so many lines lies inside a text, by three numbers
 pub record InsideThree (text : Bytes) (list : List ℕ) (count : ℕ) : Type 0 where

@@ -5,10 +5,9 @@ use sieve::WALK_LINES;
 ghost use mathlib.Core.Path.{_≡_};
 ghost use Prim.Native.Nat.{_*_, _≤_};
 ghost use lib.ListN.{length, drop};
-ghost use Rattle.sieve.specs.Bytes.{over};
 ghost use Rattle.sieve.specs.Characters.{characters};
 ghost use Rattle.sieve.specs.Places.{walkLines, walkNumbers, placesIn};
-ghost use Rattle.shown.specs.Shown.{shownSize, OnePerByte, OnePerByteIf, Countable, InsideTwo, withCounts, InsideThree, wrongAs, firstWrong};
+ghost use Rattle.shown.specs.Shown.{shownSize, OnePerByte, OnePerByteIf, Countable, InsideTwo, shownOver, InsideThree, wrongAs, firstWrong};
 
 // How many characters a line has; where it is plain, as many as bytes.
 fn counted(line: &[u8], plain: bool) -> u16
@@ -48,8 +47,7 @@ fn plain_from(text: &[u8]) -> usize
 fn fill_lines(payload: &[u8], places: &[u16], list: &mut [u16], plain: bool, tail: usize)
     requires { ⌜ InsideTwo (now payload) (now places) × (shownSize ≤ length (now list)) ⌝ }
     requires { ⌜ OnePerByteIf plain (now payload) × OnePerByte (drop tail (now payload)) ⌝ }
-    ensures { λ _.
-        ⌜ now (list .exit) ≡ over (now (list .entry)) (withCounts (now (payload .entry)) walkLines (now (places .entry))) ⌝ }
+    ensures { λ _. ⌜ now (list .exit) ≡ shownOver list payload places ⌝ }
 {
     let mut i = 0;
     while i < WALK_LINES {
@@ -69,8 +67,7 @@ fn fill_lines(payload: &[u8], places: &[u16], list: &mut [u16], plain: bool, tai
 // A plain payload has a call of its own, which counts no line: so the compiler copies many numbers at a time.
 pub fn show(payload: &[u8], places: &[u16], list: &mut [u16])
     requires { ⌜ InsideTwo (now payload) (now places) × (shownSize ≤ length (now list)) ⌝ }
-    ensures { λ _.
-        ⌜ now (list .exit) ≡ over (now (list .entry)) (withCounts (now (payload .entry)) walkLines (now (places .entry))) ⌝ }
+    ensures { λ _. ⌜ now (list .exit) ≡ shownOver list payload places ⌝ }
 {
     let tail = plain_from(payload);
     if tail == 0 {

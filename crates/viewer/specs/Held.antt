@@ -17,7 +17,7 @@ pub record IsBegun (p : Bytes) (r : Begun) : Type 0 where
   pub at : r .at ≡ opened p (verdict swiss p)
   pub answer : paper (r .answer) ≡ verdict swiss p
 
--- the same, beside the payload itself
+-- what it stands for, beside the payload itself
 pub record IsOpened (lent : RefT Bytes) (r : Viewer) : Type 0 where
   pub payload : r .payload ≡ lent
   pub at : r .at ≡ opened (now lent) (verdict swiss (now lent))

@@ -7,7 +7,7 @@ from pathlib import Path
 import kit
 
 FOLDER = kit.ROOT / 'target' / 'bench'
-SOURCE = Path(__file__).resolve().parent / 'sieve.c'
+SOURCE = Path(__file__).resolve().parent.parent / 'sieve.c'
 
 
 def compilers():

@@ -1,7 +1,7 @@
 """The instructions of a call that gives counts beside its number, beside the same in plain C.
 
 The plain C, over bench/sieve.c and by each compiler, is held to the reference first, as tests/host/run
-holds the library. How a call is counted stands in bench/counting.py.
+holds the library. How a call is counted stands in bench/lib/counting.py.
 """
 
 from pathlib import Path
@@ -10,7 +10,7 @@ import kit
 from counting import answer, count
 from sieves import FOLDER, compilers
 
-BENCH = Path(__file__).resolve().parent
+BENCH = Path(__file__).resolve().parent.parent
 
 
 def plain(source):
