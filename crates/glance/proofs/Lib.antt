@@ -1,6 +1,6 @@
 pub mod Kept
-pub mod LineAfter
-pub mod FourLines
+pub mod Fronts
+pub mod Begun
 pub mod Looking
 pub mod Leading
 pub mod Lying

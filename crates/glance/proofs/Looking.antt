@@ -1,96 +1,63 @@
--- What `look` says of four lines that were found, by what the rules find in them and by whether the fourth is ended. Assumes nothing.
-use Prim.Native.Nat.{ℕ, _+_, _-_, _≤_}
+-- What the code says of line 4, by what its rules find and by whether it is ended, is what `look` says. Assumes nothing.
+use Prim.Native.Nat.{ℕ, suc, _+_, _-_, _≤_}
 use native.Mathlib.Omega.{arith}
-use mathlib.Core.Bool.{Bool, true, false, true≢false, false≢true, _&&_, _||_, not}
-use mathlib.Core.List.{List, [], _∷_, _++_}
-use mathlib.Core.Option.{Option, some, none}
+use mathlib.Core.Bool.{Bool, true, false, cond, _&&_, not}
+use mathlib.Core.List.{List, [], _∷_, map}
+use mathlib.Core.Logic.{_≢_}
+use mathlib.Core.Option.{Option, some, none, Option·none-ne-some}
 use mathlib.Core.Path.{_≡_, refl, sym, ap, ap₂, _∙_}
 use lib.Dec.{eqb, ltb}
-use lib.ListN.{length}
-use borrow.Author.Tests.{eqb-true, eqb-false, le-ltb, lt-ltb}
+use lib.ListN.{length, getD, take, drop}
+use borrow.Author.Tests.{eq-eqb, ne-eqb, le-ltb}
 use Rattle.sieve.specs.Bytes.{Bytes}
-use Rattle.sieve.specs.Lines.{cut, linesOf, breaksOf}
-use Rattle.sieve.specs.Rules.{Rule}
-use Rattle.sieve.specs.Verdict.{Refusal}
-use Rattle.swiss.specs.Swiss.{header, account}
+use Rattle.sieve.specs.Lines.{cut, breaksOf}
+use Rattle.sieve.specs.Verdict.{Refusal, aboutLines, first}
+use Rattle.swiss.specs.Swiss.{account}
 use Rattle.lines.specs.declared.LineAt.{LineAt}
-use Rattle.lines.specs.LinesIn.{lineOf}
+use Rattle.lines.specs.Results.{IsLineAt}
+use Rattle.lines.proofs.LinesAt.{some-width, Onward, nothing, a-break, onward, line-is}
+use Rattle.lines.specs.LinesIn.{linesAt}
+use Rattle.lines.proofs.LinesLie.{absent, this-line}
 use Rattle.findings.specs.declared.Finding.{Finding}
 use Rattle.findings.specs.Findings.{asFinding, finds, from}
 use Rattle.findings.proofs.Looking.{numbered, found-nothing}
 use Rattle.glance.specs.declared.Account.the-variants.{Unknown, At}
-use Rattle.glance.specs.Glance.{wholeLines, foundIn, unlessFound, look, accountAs}
-use Rattle.glance.proofs.FourLines.{Four, text, line-1, line-2, line-3, line-4, unended-4, ended-4, there-4, place-4}
-use Rattle.glance.proofs.Kept.{filled-4}
+use Rattle.glance.specs.Glance.{unlessFound, accountAs}
+use Rattle.glance.proofs.Begun.{lookFrom}
 
--- the rules for lines 1 to 4
-abbrev pub rules : List Rule
-rules = header ++ account
+module _ (s : Bytes) (at : ℕ) (d : LineAt) (is : IsLineAt s at d) (more : Bool) where
+  abbrev lines : List Bytes
+  lines = from 4 (cut (drop at s) .first ∷ [])
 
-module _ {s : Bytes} {a b c d : LineAt} (are : Four s a b c d) where
-  -- what is found in the lines' bytes: a group of rules looks at no other lines than those that it takes
-
-  pub of-header : finds header (text s 0 a ∷ text s (a .next) b ∷ text s (b .next) c ∷ []) ≡ finds header (linesOf (cut s))
-  unfolding finds
-  of-header = rw (line-1 are, line-2 are, line-3 are)
-
-  pub of-account : finds account (from 4 (text s (c .next) d ∷ [])) ≡ finds account (linesOf (cut s))
-  unfolding finds
-  of-account = rw (line-4 are)
-
-module _ {s : Bytes} {a b c d : LineAt} (are : Four s a b c d) (more : Bool) where
   abbrev found : Option Refusal
-  found = foundIn (linesOf (cut s))
+  found = first (map (aboutLines lines) account)
 
-  abbrev whole : ℕ
-  whole = wholeLines s more
+  abbrev whole : Bool → ℕ
+  whole m = suc (suc (suc (length (breaksOf (cut (drop at s)))))) + cond m 0 1
 
-  -- something is found
-  pub found-unknown : {f : Finding} → f ≡ finds rules (linesOf (cut s)) → (f .number ≡ 0 → ⊥) → Unknown ≡ accountAs (look s more)
-  unfolding look finds
-  found-unknown {f} is h = by-cases found (ltb whole 4) is
+  -- fewer than four lines are whole exactly where line 4 may go on
+  goes-on : ltb (whole more) 4 ≡ more && eqb (d .next) (d .end)
+  goes-on = by-cases more (onward s at d is)
     where
-      by-cases : (o : Option Refusal) (w : Bool) → f ≡ asFinding o → Unknown ≡ accountAs (unlessFound w o (lineOf s 4))
-      by-cases none w e = absurd (h (ap (λ g. g .number) e))
-      by-cases (some r) true e = refl
-      by-cases (some r) false e = refl
+      by-cases : (m : Bool) → Onward s at d → ltb (whole m) 4 ≡ m && eqb (d .next) (d .end)
+      by-cases true (nothing e f) = rw (f, eq-eqb _ _ e)
+      by-cases true (a-break k e f) =
+          let some : 4 ≤ whole true = rw f (omega arith) in
+          rw (le-ltb (whole true) 4 some, ne-eqb (d .next) (d .end) (λ z. some-width k (omega (arith, e, z))))
+      by-cases false o = le-ltb (whole false) 4 (omega arith)
 
-  -- fewer than four lines are whole
-  few-unknown : whole ≤ 3 → Unknown ≡ accountAs (look s more)
-  unfolding look
-  few-unknown h = rw (lt-ltb whole 4 (omega (arith, h)))
-
-  -- four lines are whole, and nothing is found
-  four-known : found ≡ none → 4 ≤ whole → 3 ≤ length (breaksOf (cut s)) → At (c .next) (d .end - c .next) ≡ accountAs (look s more)
-  unfolding look
-  four-known e h g = let p = place-4 are g in rw (le-ltb whole 4 h, e) (ap₂ At (p .start) (p .bytes))
-
-  -- the code's test
-  abbrev answers : Finding → Bool
-  answers f = eqb (f .number) 0 && (not more || not (eqb (d .next) (d .end)))
-
-  module _ (f : Finding) (is : f ≡ finds rules (linesOf (cut s))) where
-    pub answers-known : answers f ≡ true → At (c .next) (d .end - c .next) ≡ accountAs (look s more)
-    unfolding finds numbered
-    answers-known = by-cases (eqb (f .number) 0) refl more refl (eqb (d .next) (d .end)) refl
-      where
-        by-cases : (z : Bool) → eqb (f .number) 0 ≡ z → (m : Bool) → more ≡ m → (u : Bool) → eqb (d .next) (d .end) ≡ u → (z && (not m || not u)) ≡ true → At (c .next) (d .end - c .next) ≡ accountAs (look s more)
-        by-cases false e m g u i h = absurd (false≢true h)
-        by-cases true e m g u i h =
-            let nothing = found-nothing (linesOf (cut s)) rules refl (sym (ap (λ g. g .number) is) ∙ eqb-true _ _ e) in
-            let three = there-4 are (filled-4 (linesOf (cut s)) nothing) in
-            four-known nothing (enough m g u i h three) three
-          where
-            enough : (m : Bool) → more ≡ m → (u : Bool) → eqb (d .next) (d .end) ≡ u → (not m || not u) ≡ true → 3 ≤ length (breaksOf (cut s)) → 4 ≤ whole
-            enough true g true i h three = absurd (false≢true h)
-            enough true g false i h three = rw g (omega (arith, ended-4 are (eqb-false _ _ i)))
-            enough false g u i h three = rw g (omega (arith, three))
-
-    pub else-unknown : answers f ≡ false → Unknown ≡ accountAs (look s more)
-    else-unknown = by-cases (eqb (f .number) 0) refl more refl (eqb (d .next) (d .end)) refl
-      where
-        by-cases : (z : Bool) → eqb (f .number) 0 ≡ z → (m : Bool) → more ≡ m → (u : Bool) → eqb (d .next) (d .end) ≡ u → (z && (not m || not u)) ≡ false → Unknown ≡ accountAs (look s more)
-        by-cases false e m g u i h = found-unknown is (eqb-false _ _ e)
-        by-cases true e true g true i h = few-unknown (rw g (omega (arith, unended-4 are (eqb-true _ _ i))))
-        by-cases true e true g false i h = absurd (true≢false h)
-        by-cases true e false g u i h = absurd (true≢false h)
+  pub answer : (f : Finding) → f ≡ finds account (from 4 (take (d .end - at) (drop at s) ∷ [])) → at ≢ 0
+      → cond (eqb (f .number) 0 && not (more && eqb (d .next) (d .end))) (At at (d .end - at)) Unknown ≡ accountAs (lookFrom at s more)
+  unfolding finds numbered
+  answer f of-line starts = rw (ne-eqb at 0 starts, goes-on) (by-cases found refl (more && eqb (d .next) (d .end)) (rw (line-is s at d is) at of-line))
+    where
+      by-cases : (o : Option Refusal) → found ≡ o → (w : Bool) → f ≡ asFinding o → cond (eqb (f .number) 0 && not w) (At at (d .end - at)) Unknown ≡ accountAs (unlessFound w o (getD (linesAt s at) 0 (absent s)))
+      by-cases none e true h = rw h
+      by-cases none e false h = let p = this-line s at d is in rw h (ap₂ At (p .start) (p .bytes))
+      by-cases (some r) e w h =
+          let other : f .number ≢ 0 = λ z. Option·none-ne-some r (sym (found-nothing lines account refl (ap (λ (o : Option Refusal). asFinding o .number) e ∙ sym (ap (λ g. g .number) h) ∙ z)) ∙ e) in
+          rw (ne-eqb (f .number) 0 other) (unknown w)
+        where
+          unknown : (w : Bool) → Unknown ≡ accountAs (unlessFound w (some r) (getD (linesAt s at) 0 (absent s)))
+          unknown true = refl
+          unknown false = refl

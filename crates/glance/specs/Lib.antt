@@ -1,1 +1,2 @@
+pub mod FixedLines
 pub mod Glance
