@@ -1,5 +1,5 @@
-/* Makes a call that gives counts beside its number, CALL, again and again, for bench/lib/counted.py to
-   count instructions:
+/* Makes a call that gives counts beside its number, CALL, again and again, for bench/run and
+   bench/mender to count instructions:
 
        counted_calls CALL TIMES < payload
 

@@ -1,4 +1,4 @@
-/* Makes a number again and again, for bench/numbers to count instructions:
+/* Makes a number again and again, for bench/run to count instructions:
 
        make_calls qrr|scor|iban TIMES < text
 

@@ -1,11 +1,11 @@
 /* Judges a pile of bills, or the same bills one by one, or tries them under both editions, for
-   bench/pile and bench/season to count instructions:
+   bench/run, bench/pile and bench/season to count instructions:
 
        pile_calls pile|single|both TIMES < bills
 
    Standard input has a length of four bytes, the lowest first, and that many bytes for each bill. It
-   writes how many of them are accepted, or the sums, after a first round, and then goes round TIMES
-   times. */
+   writes the answer of a first round, all numbers that are lent for entries or positions, and the
+   sums, and then goes round TIMES times. */
 
 #include <stdio.h>
 #include <stdlib.h>
@@ -32,37 +32,30 @@ static void read_bills(void)
     }
 }
 
-static void go_round(char kind)
+static uint32_t go_round(char kind)
 {
-    if (kind == 'p') {
-        qrbill_pile(buffer, sizeof buffer, places, 2 * MOST_BILLS, count, answers, 2 * MOST_BILLS);
-        return;
-    }
-    if (kind == 'b') {
-        qrbill_season(buffer, sizeof buffer, places, 2 * MOST_BILLS, count, answers, MOST_BILLS, sums,
-                      QRBILL_SUMS);
-        return;
-    }
+    if (kind == 'p')
+        return qrbill_pile(buffer, sizeof buffer, places, 2 * MOST_BILLS, count, answers,
+                           2 * MOST_BILLS);
+    if (kind == 'b')
+        return qrbill_season(buffer, sizeof buffer, places, 2 * MOST_BILLS, count, answers,
+                             MOST_BILLS, sums, QRBILL_SUMS);
     for (uint32_t i = 0; i < count; i++) {
         const uint32_t answer = qrbill_read(buffer + places[2 * i], places[2 * i + 1]);
         answers[2 * i] = (uint16_t)(answer / 1000);
         answers[2 * i + 1] = (uint16_t)(answer % 1000);
     }
+    return 0;
 }
 
 int main(int argc, char **argv)
 {
-    unsigned accepted = 0;
     if (argc < 3)
         return 1;
     read_bills();
-    go_round(argv[1][0]);
-    for (uint32_t i = 0; i < count; i++)
-        accepted += answers[2 * i] == 0;
-    if (argv[1][0] == 'b')
-        printf("%llu %llu\n", (unsigned long long)sums[0], (unsigned long long)sums[1]);
-    else
-        printf("%u of %u\n", accepted, (unsigned)count);
+    printf("%u\n", go_round(argv[1][0]));
+    fwrite(answers, 1, sizeof answers, stdout);
+    fwrite(sums, 1, sizeof sums, stdout);
     mark(argc);
     for (int left = atoi(argv[2]); left > 0; left--)
         go_round(argv[1][0]);

@@ -1,4 +1,5 @@
-/* Hands over a payload in bits of so many bytes, for bench/scanner to count instructions:
+/* Hands over a payload in bits of so many bytes, for bench/run and bench/scanner to count
+   instructions:
 
        scan_calls BYTES TIMES < payload
 

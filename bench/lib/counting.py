@@ -1,9 +1,8 @@
 """How many instructions a call takes, counted one by one: the same number in each run.
 
 A program has the kind of call and a number as its words, and the data as its standard input. It
-makes a first call, says what that answers, and makes the call so many times more. It is run with
-TIMES and with 0; the difference, divided by TIMES, is the count. It holds about ten instructions of
-the loop around the call.
+makes a first call, says what that answers, and makes the call so many times more. It is run with 1
+and with 2; the difference is the count. It holds about ten instructions of the loop around the call.
 
 On Arm the kit's emulator translates one instruction at a time and notes each that it runs. On
 x86-64 the program is stepped from instruction to instruction (ptrace), between the two marks that it
@@ -21,7 +20,6 @@ from pathlib import Path
 
 import kit
 
-TIMES = 10
 ADDRESS = re.compile(rb'^Trace .*?/(\w+)/', re.MULTILINE)
 PTRACE_TRACEME, PTRACE_CONT, PTRACE_SINGLESTEP = 0, 7, 9
 MARKED = 'marked'  # a third word: the program is to mark its calls
@@ -36,9 +34,10 @@ def answer(program, kind, data):
 
 def count(program, kind, data):
     """How many instructions one call takes. Both numbers of calls are words of one length, so that
-    all else in the two runs is alike."""
-    none, some = (instructions(program, [kind, f'{times:02}'], data) for times in (0, TIMES))
-    return round((some - none) / TIMES)
+    all else in the two runs is alike; and calls are made in both, so that what leads to the first of
+    them is not counted."""
+    once, twice = (instructions(program, [kind, times], data) for times in ('1', '2'))
+    return twice - once
 
 
 def instructions(program, words, data):
