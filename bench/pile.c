@@ -1,5 +1,5 @@
-/* Piles and seasons in plain C, as one writes them by hand, over bench/sieve.c: include/qrbill.h says what
-   is answered. A season judges by the rules itself, since it cuts a bill once for both editions. */
+/* Piles and seasons in plain C, as one writes them by hand, over bench/sieve.c: include/qrbill.h says
+   what is answered. A season judges by the rules itself: it cuts a bill once for both editions. */
 
 #include <string.h>
 
@@ -47,8 +47,8 @@ static inline uint64_t cents_of(const struct bill *bill)
     return 100 * cents + 10u * point[1] + point[2] - 11 * '0';
 }
 
-/* Whether the editions differ on a payload. The cents of what 2.2 accepts go to the sum of CHF, which comes
-   first, or of EUR. What 2.4 accepts 2.2 accepts too. */
+/* Whether the editions differ on a payload. The cents of what 2.2 accepts go to the sum of CHF, which
+   comes first, or of EUR. What 2.4 accepts 2.2 accepts too. */
 static inline bool differ(const uint8_t *payload, size_t length, uint64_t *sums)
 {
     struct bill bill;

@@ -1,4 +1,5 @@
-/* The rules of Swiss QR-bill payloads in plain C, written for speed, for bench/sieve.c and bench/pile.c.
+/* The rules of Swiss QR-bill payloads in plain C, written for speed, for bench/sieve.c and
+   bench/pile.c.
 
    One walk over the bytes notes where each line starts, and whether a character has more bytes than
    one. All breaks being alike, a line's size is the way from its start to the next one, less a break.
@@ -474,7 +475,8 @@ static inline uint32_t judge_together(const struct bill *bill, enum edition edit
     return 0;
 }
 
-/* Rules 6 to 13 of a payload that is cut. Answers `refusal`, which the cut answered, where it is not 0. */
+/* Rules 6 to 13 of a payload that is cut. Answers `refusal`, which the cut answered, where that is
+   not 0. */
 static inline uint32_t judge_lines(uint32_t refusal, const struct bill *bill, enum edition edition)
 {
     if (refusal == 0)

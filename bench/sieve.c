@@ -1,6 +1,6 @@
 /* The reader and the writer of Swiss QR-bill payloads in plain C, written for speed: the calls of
-   include/qrbill.h, which says what they answer, to compare with. Tested, not proved. The rules stand in
-   bench/rules.h. */
+   include/qrbill.h, which says what they answer, to compare with. Tested, not proved. The rules stand
+   in bench/rules.h. */
 
 #include "qrbill.h"
 

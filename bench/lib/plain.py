@@ -1,4 +1,5 @@
-"""Plain C, compiled with -O2 by the compiler of the kit and by GCC, where the machine has one for x86-64."""
+"""Plain C, compiled with -O2 by the compiler of the kit and by GCC, where the machine has one for
+x86-64."""
 
 import shutil
 from functools import cache

@@ -1,4 +1,5 @@
-"""Rows of instructions: a call of the library on an input, beside the same in plain C by each compiler."""
+"""Rows of instructions: a call of the library on an input, beside the same in plain C by each
+compiler."""
 
 import sys
 from typing import NamedTuple
@@ -77,8 +78,8 @@ def counts(row, made):
 
 
 def table(wanted):
-    """Print pairs of a twin and its rows, each once the twin's plain C is held to the reference. How far
-    it is stands on standard error, where that is a terminal."""
+    """Print the rows of pairs of a twin and its rows, once the twin's plain C is held to the reference.
+    How far it is stands on standard error, where that is a terminal."""
     heads = [head for name in compilers() for head in (name, 'ratio')]
     show('call', 'of', 'bytes', 'library', *heads, 'a byte')
     done, total = 0, sum(len(rows) for _, rows in wanted)

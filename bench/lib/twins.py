@@ -110,7 +110,7 @@ def held(twin):
         some = host.few()
         for name, objects in plain(*twin.sources).items():
             if host.differing(host.built(FOLDER / name, objects), some):
-                raise SystemExit(f'{twin.sources[0]}.c by {name} and the reference give different answers')
+                raise SystemExit(f'{twin.sources[0]}.c by {name} and the reference differ')
 
 
 @cache
