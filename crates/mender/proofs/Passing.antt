@@ -1,21 +1,26 @@
 -- A sweep over a payload, byte by byte: what is known before a byte is known after it. Assumes nothing.
-use Prim.Native.Nat.{ℕ, _+_, _≤_}
+use Prim.Native.Nat.{ℕ, _+_, _≤_, _<_}
 use native.Mathlib.Numerals.{add-one}
 use native.Mathlib.Omega.{arith}
-use mathlib.Core.Bool.{true, false, cond}
+use mathlib.Core.Bool.{Bool, true, false, cond, and-eq-true-iff}
 use mathlib.Core.List.{[], _∷_, append-nil}
 use mathlib.Core.Path.{_≡_, refl, sym, ap, _∙_}
-use lib.Dec.{eqb}
+use lib.Dec.{eqb, ltb}
 use lib.ListN.{length, take, drop, getD, drop-of-length-le}
 use lib.Seq.{drop-cons, length-take-le}
+use borrow.Author.Tests.{ltb-true}
 use Rattle.sieve.specs.Bytes.{Bytes}
 use Rattle.sieve.specs.Characters.{lineFeeds}
 use Rattle.mender.specs.declared.Reach.{Reach}
 use Rattle.mender.specs.declared.Tally.{Tally}
 use Rattle.mender.specs.Steps.{asLf, despaced, howMany}
-use Rattle.mender.specs.Sweeping.{Carries, swept, CanPut, Farther, SweptTo, CanPass, IsSwept}
+use Rattle.mender.specs.Sweeping.{Carries, swept, CanPut, Farther, firmAt, SweptTo, CanPass, IsSwept}
 use Rattle.mender.proofs.Counted.{despaced-fewer}
 use Rattle.mender.proofs.Sweeps.{swept-none, pending-end, pending-none}
+
+-- where a byte over 32 stands, a byte stands
+pub firm-inside : (p : Bytes) (i : ℕ) {b : Bool} → b ≡ firmAt p i → b ≡ true → i < length p
+firm-inside p i is firm = ltb-true i (length p) (and-eq-true-iff (ltb i (length p)) (ltb 32 (getD p i 0)) .0 (sym is ∙ firm) .0)
 
 pub first-byte : (p room : Bytes) → SweptTo p 0 (record { reach = record { at = 0; solid = 0; line = 1 }; breaks = 0; pairs = 0 }) room
 unfolding swept lineFeeds

@@ -1,9 +1,10 @@
 -- What is known of a payload while it is swept, byte by byte, into a room: steps 1 to 3 at once. Assumes nothing.
 use Prim.Native.Nat.{ℕ, _+_, _-_, _≤_, _<_}
-use mathlib.Core.Bool.{Bool, true, cond}
+use mathlib.Core.Bool.{Bool, true, cond, _&&_}
 use mathlib.Core.List.{[], _∷_, _++_}
 use mathlib.Core.Path.{_≡_}
-use lib.ListN.{length, take, drop, replicate}
+use lib.Dec.{ltb}
+use lib.ListN.{length, take, drop, getD, replicate}
 use Rattle.sieve.specs.Bytes.{Bytes}
 use Rattle.sieve.specs.Characters.{lineFeeds}
 use Rattle.mender.specs.declared.Reach.{Reach}
@@ -59,6 +60,10 @@ pub record SweptTo (p : Bytes) (i : ℕ) (t : Tally) (room : Bytes) : Type 0 whe
   -- CR bytes so far; and how many bytes are still to come after step 1
   pub crs : t .breaks + howMany 13 (drop i p) ≡ howMany 13 p
   pub lengths : i + length (asLf (drop i p)) ≡ t .pairs + length (asLf p)
+
+-- a byte stands there, and is over 32: neither a space nor of a break
+abbrev pub firmAt : Bytes → ℕ → Bool
+firmAt p i = ltb i (length p) && ltb 32 (getD p i 0)
 
 -- there is such a byte, and room for it
 pub record CanPass (p : Bytes) (i : ℕ) (t : Tally) (room : Bytes) : Type 0 where

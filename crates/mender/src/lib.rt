@@ -11,10 +11,13 @@ ghost use Prim.Native.Nat.{_+_, _≤_};
 ghost use lib.ListN.{length};
 ghost use Rattle.sieve.specs.Characters.{lineFeeds};
 ghost use Rattle.mender.specs.Mending.{mostMended, mendOf, bySteps, EndsByRoom, EndsByReader, IsMended};
-ghost use Rattle.mender.specs.Sweeping.{CanPut, Farther, Carries, CanPass, SweptTo, IsSwept, IsEnd};
+ghost use Rattle.mender.specs.Sweeping.{CanPut, Farther, Carries, CanPass, SweptTo, firmAt, IsSwept, IsEnd};
 
 // Bytes that can be mended.
 const MOST: usize = 4096;
+
+// Bytes for which a small room is enough.
+const SHORT: usize = 2000;
 
 // What was counted on the way: breaks that were not LF, spaces taken, lines dropped.
 pub struct Repairs {
@@ -122,7 +125,19 @@ fn pass_byte(payload: &[u8], i: usize, t: Tally, room: &mut [u8]) -> Tally
     }
 }
 
-// Steps 1 to 3 in one pass: breaks become LF as they come, and spaces are pending until their line goes on.
+// Whether a byte over 32, which is neither a space nor of a break, stands at a place.
+fn firm_at(payload: &[u8], i: usize) -> bool
+    ensures { λ r. ⌜ r ≡ firmAt (now (payload .entry)) i ⌝ }
+{
+    if i < payload.len() {
+        return 32 < payload[i];
+    }
+    false
+}
+
+// Steps 1 to 3 in one pass: breaks become LF as they come, and spaces are pending until their line goes on. Most bytes stand
+// in runs over 32, which have a loop of their own: behind a run's first byte no space is pending, and the compiler keeps one
+// number for `at` and `solid`.
 fn sweep(payload: &[u8], room: &mut [u8]) -> Swept
     requires { ⌜ (length (now payload) ≤ length (now room)) × (length (now payload) ≤ mostMended) ⌝ }
     ensures { λ r. ⌜ IsSwept (now (payload .entry)) r (now (room .exit)) ⌝ }
@@ -139,8 +154,17 @@ fn sweep(payload: &[u8], room: &mut [u8]) -> Swept
     };
     let mut i = 0;
     while i < payload.len() {
-        t = pass_byte(payload, i, t, room);
-        i += 1;
+        if firm_at(payload, i) {
+            t = pass_byte(payload, i, t, room);
+            i += 1;
+            while firm_at(payload, i) {
+                t = pass_byte(payload, i, t, room);
+                i += 1;
+            }
+        } else {
+            t = pass_byte(payload, i, t, room);
+            i += 1;
+        }
     }
     let reach = t.reach;
     Swept {
@@ -179,14 +203,12 @@ fn lay_mended(bytes: &[u8], repairs: Repairs, dest: &mut [u8]) -> Mended
     Mended::Length(bytes.len(), repairs)
 }
 
-// The four steps on a payload that the reader refuses. They are made in a room of their own, since a refusal changes no
-// byte of the destination.
-fn rework(payload: &[u8], dest: &mut [u8]) -> Mended
-    requires { ⌜ length (now payload) ≤ mostMended ⌝ }
+// The four steps, made in a room of their own, since a refusal changes no byte of the destination.
+fn rework_in(payload: &[u8], room: &mut [u8], dest: &mut [u8]) -> Mended
+    requires { ⌜ (length (now payload) ≤ length (now room)) × (length (now payload) ≤ mostMended) ⌝ }
     ensures { λ r. ⌜ EndsByReader (bySteps (now (payload .entry))) (now (dest .entry)) r (now (dest .exit)) ⌝ }
 {
-    let mut room = [0; 4096];
-    let swept = sweep(payload, &mut room);
+    let swept = sweep(payload, room);
     let all = swept.bytes;
     let lines = swept.lines;
     let end = end_of(&room[0..all], lines);
@@ -199,6 +221,20 @@ fn rework(payload: &[u8], dest: &mut [u8]) -> Mended
         Answer::Refused(f) => Mended::Refused(f),
         Answer::Accepted(_, _) => lay_mended(&room[0..end], repairs, dest),
     }
+}
+
+// The four steps on a payload that the reader refuses. A room is cleared before it is used, and one of 2,048 bytes or more
+// is cleared byte by byte: most payloads fit into a smaller one.
+fn rework(payload: &[u8], dest: &mut [u8]) -> Mended
+    requires { ⌜ length (now payload) ≤ mostMended ⌝ }
+    ensures { λ r. ⌜ EndsByReader (bySteps (now (payload .entry))) (now (dest .entry)) r (now (dest .exit)) ⌝ }
+{
+    if payload.len() <= SHORT {
+        let mut room = [0; SHORT];
+        return rework_in(payload, &mut room, dest);
+    }
+    let mut room = [0; MOST];
+    rework_in(payload, &mut room, dest)
 }
 
 // What the reader accepts comes back unchanged; else the payload is mended, and written if the reader accepts what comes

@@ -1,4 +1,4 @@
--- `mender::rework` meets its contract: the reader is asked about what the four steps leave in the room. Assumes nothing.
+-- `mender::rework_in` meets its contract: the reader is asked about what the four steps leave in the room. Assumes nothing.
 use mathlib.Core.Path.{_≡_, ap, _∙_}
 use borrow.Author.Needs.{needs}
 use Rattle.sieve.specs.Paper.{paper}
@@ -7,11 +7,8 @@ use Rattle.swiss.specs.Swiss.{swiss}
 use Rattle.mender.specs.Mending.{bySteps}
 use Rattle.mender.specs.Steps.{reworked}
 use Rattle.mender.proofs.Answers.{by-refusal, by-room, same-mend, lines-are, front-is, repairs-are}
-use Rattle.mender.proofs.rework.Statement.{statement}
-use Rattle.mender.proofs.rework.Tie as tie
-
-slice-aggregate-sweep : tie.Need-slice-aggregate-sweep
-slice-aggregate-sweep c = search needs
+use Rattle.mender.proofs.rework_in.Statement.{statement}
+use Rattle.mender.proofs.rework_in.Tie as tie
 
 sweep-requires : tie.Need-sweep-requires
 sweep-requires c κs = search needs
@@ -26,16 +23,16 @@ part-end-of-end : tie.Need-part-end-of-end
 part-end-of-end c = search needs
 
 end-of-requires : tie.Need-end-of-requires
-end-of-requires c κs = lines-are (c .before .before .before .sweep .ensures)
+end-of-requires c κs = lines-are (c .before .before .before .before .sweep .ensures)
+
+sub-t16 : tie.Need-sub-t16
+sub-t16 c = search needs
 
 sub-t17 : tie.Need-sub-t17
 sub-t17 c = search needs
 
 sub-t18 : tie.Need-sub-t18
 sub-t18 c = search needs
-
-sub-t19 : tie.Need-sub-t19
-sub-t19 c = search needs
 
 sub-verdict : tie.Need-sub-verdict
 sub-verdict c = search needs
@@ -69,20 +66,26 @@ lay-mended-requires c κs = search needs
 
 -- where the payload was swept, from where the reader was asked, and where all began
 abbrev swept : tie.After-verdict → tie.After-sweep
-swept v = v .before .before .before .before .before .before .before .before
+swept v = v .before .before .before .before .before .before .before .before .before
 
 abbrev start : tie.After-verdict → tie.Start
-start v = swept v .before .before .before .before
+start v = swept v .before .before .before .before .before
 
 -- the reader is asked about the reworked payload
 asked : (v : tie.After-verdict) → paper (v .verdict .result) ≡ verdict swiss (reworked (start v .args .payload .now))
 asked v = v .verdict .ensures ∙ ap (verdict swiss) (front-is (swept v .sweep .ensures) (v .before .before .before .before .end-of .ensures))
 
+same-length : tie.Need-same-length
+same-length c = search needs
+
 returns : tie.Need-returns
 returns c = by-refusal (bySteps (start (c .before .before .before) .args .payload .now)) _ (asked (c .before .before .before)) (c .before .f .given .1)
 
-same-length : tie.Need-same-length
-same-length c = search needs
+same-length-2 : tie.Need-same-length-2
+same-length-2 c = search needs
+
+same-length-3 : tie.Need-same-length-3
+same-length-3 c = search needs
 
 returns-2 : tie.Need-returns-2
 returns-2 c =
@@ -91,19 +94,18 @@ returns-2 c =
     let ended = v .before .before .before .before .end-of .ensures in
     by-room (bySteps (start v .args .payload .now)) _ (asked v) (c .before .before .before .before .before .before .enum-told .given .1) (same-mend (front-is sweeping ended) (repairs-are sweeping ended) (c .before .before .lay-mended .ensures))
 
-pub rework-spec : {M : Type 1} → statement M
-rework-spec =
+pub rework-in-spec : {M : Type 1} → statement M
+rework-in-spec =
     tie.close
     (tie.spec
-    slice-aggregate-sweep
     sweep-requires
     sub-end-of
     part-end-of-start
     part-end-of-end
     end-of-requires
+    sub-t16
     sub-t17
     sub-t18
-    sub-t19
     sub-verdict
     part-verdict-start
     part-verdict-end
@@ -114,6 +116,8 @@ rework-spec =
     part-lay-mended-start
     part-lay-mended-end
     lay-mended-requires
-    returns
     same-length
+    returns
+    same-length-2
+    same-length-3
     returns-2)
