@@ -1,6 +1,6 @@
 // References and accounts of our own, made from their parts, with the check digits that are due.
-use mod10::check_digit;
-use mod97::remainder97_by_table;
+use mod10::check_digit_of_digits;
+use mod97::remainder97;
 use runs::Kind;
 use runs::every;
 use runs::lay;
@@ -22,11 +22,14 @@ fn lay_at(dest: &mut [u8], at: usize, part: &[u8])
     lay(&mut dest[at..], part);
 }
 
-// 26 digits, not all zero.
+// 26 digits, not all zero. The length is asked first: of a known number of bytes the compiler asks 16 at once.
 fn qrr_part(s: &[u8]) -> bool
     ensures { λ r. ⌜ r ≡ qrrPart (now (s .entry)) ⌝ }
 {
-    (s.len() == 26) & every(Kind::Digit, s) & !every(Kind::Zero, s)
+    if s.len() != 26 {
+        return false;
+    }
+    every(Kind::Digit, s) & !every(Kind::Zero, s)
 }
 
 // A QR reference from its first 26 digits.
@@ -37,7 +40,7 @@ pub fn make_qrr(digits: &[u8], dest: &mut [u8]) -> Written
         if dest.len() < 27 {
             return Written::Refused(Fault::NoRoom);
         }
-        let last = [check_digit(digits)];
+        let last = [check_digit_of_digits(digits)];
         lay_at(dest, 0, digits);
         lay_at(dest, 26, &last);
         return Written::Length(27);
@@ -50,19 +53,20 @@ fn set_pair(text: &mut [u8])
     requires { ⌜ 4 ≤ length (now text) ⌝ }
     ensures { λ _. ⌜ now (text .exit) ≡ withPairSet (now (text .entry)) ⌝ }
 {
-    let pair = 98 - remainder97_by_table(text);
+    let pair = 98 - remainder97(text);
     text[2] = 48 + (pair / 10) as u8;
     text[3] = 48 + (pair % 10) as u8;
 }
 
-// Lays a head, the pair that is due and a rest of two parts in the front of a destination that has room for them.
+// Lays a head, the pair that is due and a rest of two parts in the front of a destination that has room for them. The head
+// is two characters, which the compiler copies at once where it sees their number.
 fn lay_with_pair(head: &[u8], first: &[u8], second: &[u8], dest: &mut [u8])
     requires { ⌜ HasRoom (now head) (now first) (now second) (now dest) ⌝ }
     ensures { λ _. ⌜ IsPairLaid head first second dest ⌝ }
 {
     let second_at = 4 + first.len();
     let end = second_at + second.len();
-    lay_at(dest, 0, head);
+    lay_at(dest, 0, &head[0..2]);
     lay_at(dest, 2, b"00");
     lay_at(dest, 4, first);
     lay_at(dest, second_at, second);
@@ -99,13 +103,20 @@ pub fn make_scor(reference: &[u8], dest: &mut [u8]) -> Written
     Written::Refused(Fault::BadForm(0))
 }
 
-// CH or LI; five digits; twelve of 0-9 A-Z.
+// CH or LI; five digits; twelve of 0-9 A-Z. The lengths are asked first: of a known number of bytes the compiler asks 16 at
+// once.
 fn iban_parts(country: &[u8], iid: &[u8], account: &[u8]) -> bool
     ensures { λ r. ⌜ r ≡ ibanParts (now (country .entry)) (now (iid .entry)) (now (account .entry)) ⌝ }
 {
+    if iid.len() != 5 {
+        return false;
+    }
+    if account.len() != 12 {
+        return false;
+    }
     (same(country, &Edition::SWITZERLAND) | same(country, &Edition::LIECHTENSTEIN))
-        & ((iid.len() == 5) & every(Kind::Digit, iid))
-        & ((account.len() == 12) & every(Kind::DigitOrCapital, account))
+        & every(Kind::Digit, iid)
+        & every(Kind::DigitOrCapital, account)
 }
 
 // An IBAN from its country, its IID and the account at that bank.

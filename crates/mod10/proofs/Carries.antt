@@ -1,17 +1,17 @@
 -- The carries of modulo 10, recursive, are below 10, their table twice in a row spares a remainder, and the check digit is a digit. Assumes nothing.
-use Prim.Native.Nat.{ℕ, zero, suc, _+_, _-_, _%_, _<_}
+use Prim.Native.Nat.{ℕ, zero, suc, _+_, _-_, _%_, _≤_, _<_}
 use native.Mathlib.Nat.{mod-eq-of-lt}
 use native.Mathlib.Omega.{arith}
 use mathlib.Core.Bool.{Bool, true, false, and-eq-true-iff}
 use mathlib.Core.List.{[], _∷_, _++_}
 use mathlib.Core.Path.{_≡_, refl, ap, _∙_}
 use lib.Dec.{ltb}
-use lib.ListN.{getD, List·getD-append}
+use lib.ListN.{length, getD, drop, List·getD-append}
 use lib.Seq.{getD-append-add}
 use borrow.Author.Tests.{ltb-true, ltb-false, le-leb}
 use Rattle.sieve.specs.Bytes.{Bytes, within, every}
 use Rattle.sieve.specs.Mod10.{nextCarry, carry, checkDigit}
-use Rattle.sieve.proofs.Folds.{Fold, after}
+use Rattle.sieve.proofs.Folds.{Fold, step, end, after}
 
 -- the carry c after the byte x
 abbrev pub nextAfter : ℕ → ℕ → ℕ
@@ -46,6 +46,28 @@ twice k h = by-cases (ltb k 10) refl
         ap (λ (n : ℕ). getD (nextCarry ++ nextCarry) n 0) d
         ∙ getD-append-add nextCarry nextCarry (k - 10) 0
         ∙ ap (λ (n : ℕ). getD nextCarry n 0) m
+
+-- after i bytes of s the carry is c, and what is left asks for the same
+pub record Carried (s : Bytes) (c i : ℕ) : Type 0 where
+  pub few : i ≤ length s
+  pub small : c < 10
+  pub same : carry 0 s ≡ carry c (drop i s)
+
+pub none-carried : (s : Bytes) → Carried s 0 0
+none-carried s = record { few = omega arith; small = omega arith; same = refl }
+
+module _ {s : Bytes} {c i : ℕ} (so-far : Carried s c i) where
+  pub one-carried : {r : ℕ} → i < length s → r ≡ nextAfter c (getD s i 0) → Carried s r (i + 1)
+  one-carried h e =
+      rw e record {
+        few = omega arith;
+        small = next-small ((c + (getD s i 0 - 48)) % 10);
+        same = so-far .same ∙ step carries c s i h;
+      }
+
+  pub all-carried : {r : ℕ} → length s ≤ i → r ≡ 48 + (10 - c) % 10 → r ≡ checkDigit s
+  unfolding checkDigit
+  all-carried h e = rw (e, so-far .same, end carries c s i h)
 
 -- one run of digits after another
 pub carry-appended : (c : ℕ) (a b : Bytes) → carry c (a ++ b) ≡ carry (carry c a) b

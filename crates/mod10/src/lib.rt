@@ -1,8 +1,11 @@
 // The check digit of a run of digits by modulo 10, recursive.
+ghost use mathlib.Core.Bool.{true};
 ghost use mathlib.Core.List.{_++_};
 ghost use mathlib.Core.Path.{_≡_};
 ghost use Prim.Native.Nat.{_+_, _-_, _%_, _<_};
 ghost use lib.ListN.{getD};
+ghost use Rattle.sieve.specs.Bytes.{every};
+ghost use Rattle.sieve.specs.Letters.{digit};
 ghost use Rattle.sieve.specs.Mod10.{nextCarry, checkDigit, checks10};
 
 // The next carry at carry plus digit, twice in a row, so that of a sum below 20 no remainder by 10 is taken.
@@ -27,7 +30,23 @@ fn next_carry(table: &[u8; 20], c: u8, x: u8) -> u8
     table[(sum % 10) as usize]
 }
 
-// Modulo 10, recursive: the check digit, as a byte, that a run of digits asks for. Under carry 0 it is 0 and not 10.
+// The carry c after a digit.
+fn carry_after(table: &[u8; 20], c: u8, x: u8) -> u8
+    requires { ⌜ (c < 10) × (now table ≡ nextCarry ++ nextCarry) × (digit x ≡ true) ⌝ }
+    ensures { λ r. ⌜ r ≡ getD nextCarry ((c + (x - 48)) % 10) 0 ⌝ }
+{
+    table[(c + (x - 48)) as usize]
+}
+
+// The check digit, as a byte, that a carry leaves. Under carry 0 it is 0 and not 10.
+fn due(c: u8) -> u8
+    requires { ⌜ c < 10 ⌝ }
+    ensures { λ r. ⌜ r ≡ 48 + (10 - c) % 10 ⌝ }
+{
+    48 + (10 - c) % 10
+}
+
+// Modulo 10, recursive: the check digit, as a byte, that a run of digits asks for.
 pub fn check_digit(s: &[u8]) -> u8
     ensures { λ r. ⌜ r ≡ checkDigit (now (s .entry)) ⌝ }
 {
@@ -38,7 +57,22 @@ pub fn check_digit(s: &[u8]) -> u8
         c = next_carry(&table, c, s[i]);
         i += 1;
     }
-    48 + (10 - c) % 10
+    due(c)
+}
+
+// What `check_digit` answers of bytes that are known to be digits: none of them is told from other bytes.
+pub fn check_digit_of_digits(s: &[u8]) -> u8
+    requires { ⌜ every digit (now s) ≡ true ⌝ }
+    ensures { λ r. ⌜ r ≡ checkDigit (now (s .entry)) ⌝ }
+{
+    let table = NEXT_CARRY;
+    let mut carry = 0;
+    let mut i = 0;
+    while i < s.len() {
+        carry = carry_after(&table, carry, s[i]);
+        i += 1;
+    }
+    due(carry)
 }
 
 // Whether the 27th digit is the one that the first 26 ask for. A shorter text has none, and more after it is not read.

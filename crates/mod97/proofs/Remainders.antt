@@ -36,6 +36,13 @@ pub one-turn : (n r : ℕ) (s : Bytes) (i : ℕ) → i < length s → numeral n 
     → numeral n s % 97 ≡ numeral (onto r (getD s i 0) % 97) (drop (i + 1) s) % 97
 one-turn n r s i h e = e ∙ ap (λ (k : ℕ). k % 97) (step numbers r s i h) ∙ carried _ (drop (i + 1) s)
 
+-- one character more is read, after a number q that leaves the remainder of what stands before
+pub one-read : (n r q : ℕ) (s : Bytes) (i : ℕ) → i < length s → q % 97 ≡ r % 97 → numeral n s % 97 ≡ numeral r (drop i s) % 97
+    → numeral n s % 97 ≡ numeral (onto q (getD s i 0)) (drop (i + 1) s) % 97
+one-read n r q s i h same e =
+    let before : numeral r (drop i s) % 97 ≡ numeral q (drop i s) % 97 = carried r (drop i s) ∙ ap (λ (k : ℕ). numeral k (drop i s) % 97) (sym same) ∙ sym (carried q (drop i s)) in
+    e ∙ before ∙ ap (λ (k : ℕ). k % 97) (step numbers q s i h)
+
 -- the first character is read by itself, and then the others
 pub first-turn : (n : ℕ) (s : Bytes) → 0 < length s → numeral (onto n (getD s 0 0) % 97) (take (length s - 1) (drop 1 s)) % 97 ≡ numeral n s % 97
 first-turn n s h =
@@ -52,6 +59,9 @@ two-turns n r s i h e =
 -- nothing is left to read
 pub no-turn : (n r : ℕ) (s : Bytes) (i : ℕ) → length s ≤ i → r < 97 → numeral n s % 97 ≡ numeral r (drop i s) % 97 → r ≡ numeral n s % 97
 no-turn n r s i h small e = rw (e, end numbers r s i h) (omega arith)
+
+pub none-left : (n r : ℕ) (s : Bytes) (i : ℕ) → length s ≤ i → numeral n s % 97 ≡ numeral r (drop i s) % 97 → r % 97 ≡ numeral n s % 97
+none-left n r s i h e = rw (e, end numbers r s i h)
 
 -- what stands before a text counts as many times as the text weighs
 pub summed : (n : ℕ) (s : Bytes) → numeral n s ≡ n * weight s + numeral 0 s

@@ -11,6 +11,9 @@ ghost use Rattle.sieve.specs.Letters.{digit, capital};
 ghost use Rattle.sieve.specs.Mod97.{value, onto, numeral, remainder97, pair, checks97};
 ghost use Rattle.mod97.specs.Steps.{remainders};
 
+// From here on, 100 ^ 8, a number has no room for a character more.
+const LARGE: u64 = 10000000000000000;
+
 // One of 0-9.
 fn is_digit(x: u8) -> bool
     ensures { λ r. ⌜ r ≡ digit x ⌝ }
@@ -48,26 +51,28 @@ fn extended(n: u64, x: u8) -> u64
     }
 }
 
-// The remainder by 97 of the number n with one character more.
-fn onto(n: u64, x: u8) -> u64
-    requires { ⌜ n < 97 ⌝ }
-    ensures { λ r. ⌜ r ≡ onto n x % 97 ⌝ }
+// A number that leaves the same remainder by 97 and has room for a character more: itself, where it has.
+fn reduced(n: u64) -> u64
+    ensures { λ r. ⌜ (r % 97 ≡ n % 97) × (r < 100 ^ 8) ⌝ }
 {
-    extended(n, x) % 97
+    if n < LARGE {
+        return n;
+    }
+    n % 97
 }
 
-// The remainder by 97 of the number n with a text more. Only the remainder of what stands before counts, so it keeps no
-// more than that, and no text is too long.
+// The remainder by 97 of the number n with a text more. Only the remainder of what stands before counts, so no text is too
+// long; it is taken only where the number grows too large, and not at each character.
 pub fn remainder_after(n: u64, s: &[u8]) -> u64
     ensures { λ r. ⌜ r ≡ numeral n (now (s .entry)) % 97 ⌝ }
 {
     let mut r = n % 97;
     let mut i = 0;
     while i < s.len() {
-        r = onto(r, s[i]);
+        r = extended(reduced(r), s[i]);
         i += 1;
     }
-    r
+    r % 97
 }
 
 // MOD 97-10: the remainder by 97 of the number that a text stands for, its first four characters moved to its end.

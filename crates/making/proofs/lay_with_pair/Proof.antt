@@ -4,8 +4,8 @@ use native.Mathlib.Nat.{sub-zero}
 use native.Mathlib.Omega.{arith}
 use mathlib.Core.List.{_++_, append-assoc}
 use mathlib.Core.Path.{_≡_, ap, _∙_}
-use lib.ListN.{length, length-append}
-use lib.Seq.{take-append-seam}
+use lib.ListN.{length, take, length-append}
+use lib.Seq.{take-all, take-append-seam}
 use borrow.Author.Needs.{needs}
 use Rattle.sieve.specs.Bytes.{Bytes, ascii, over}
 use Rattle.making.specs.Made.{laidAt, withPairSet}
@@ -24,13 +24,22 @@ abbrev behind-first : tie.After-lay-at4 → tie.After-lay-at
 behind-first q = behind-second q .before .before .before .before .before
 
 abbrev start : tie.After-lay-at4 → tie.Start
-start q = behind-first q .before .before .before .before .before .before
+start q = behind-first q .before .before .before .before .before .before .before
 
 add-second-at : tie.Need-add-second-at
 add-second-at c = search needs
 
 add-end : tie.Need-add-end
 add-end c = search needs
+
+sub-lay-at : tie.Need-sub-lay-at
+sub-lay-at c = search needs
+
+part-lay-at-start : tie.Need-part-lay-at-start
+part-lay-at-start c = search needs
+
+part-lay-at-end : tie.Need-part-lay-at-end
+part-lay-at-end c = search needs
 
 lay-at-requires : tie.Need-lay-at-requires
 lay-at-requires c κs = search needs
@@ -71,7 +80,8 @@ laid q =
     let two = start q .pre .parts .two in
     let four : length (a .head .now ++ ascii "00") ≡ 4 = omega (arith, length-append (a .head .now) (ascii "00")) in
     let more : length ((a .head .now ++ ascii "00") ++ a .first .now) ≡ 4 + length (a .first .now) = omega (arith, length-append (a .head .now ++ ascii "00") (a .first .now)) in
-    let first = behind-first q .lay-at .ensures ∙ laid-first (a .dest .now) (a .head .now) in
+    let whole : take 2 (a .head .now) ≡ a .head .now = take-all 2 (a .head .now) (omega arith) in
+    let first = behind-first q .lay-at .ensures ∙ ap (λ (w : Bytes). laidAt 0 w (a .dest .now)) whole ∙ laid-first (a .dest .now) (a .head .now) in
     let second = behind-second q .lay-at2 .ensures ∙ ap (laidAt 2 (ascii "00")) first ∙ laid-behind (a .dest .now) (a .head .now) (ascii "00") 2 two in
     let third = behind-third q .lay-at3 .ensures ∙ ap (laidAt 4 (a .first .now)) second ∙ laid-behind (a .dest .now) (a .head .now ++ ascii "00") (a .first .now) 4 four in
     q .lay-at4 .ensures
@@ -100,6 +110,9 @@ lay-with-pair-spec =
     (tie.spec
     add-second-at
     add-end
+    sub-lay-at
+    part-lay-at-start
+    part-lay-at-end
     lay-at-requires
     slice-aggregate-lay-at
     lay-at-requires-2

@@ -20,22 +20,26 @@ use Rattle.making.proofs.make_qrr.Tie as tie
 qrr-part-requires : tie.Need-qrr-part-requires
 qrr-part-requires c κs = search needs
 
--- what the test of the part says, and how many digits there are then
+-- what the test of the part says: that all are digits, and how many there are
 formed : (t : tie.Then1) → qrrPart (t .before .before .before .before .args .digits .now) ≡ true
 formed t = sym (t .before .qrr-part .ensures) ∙ t .if1 .taken
 
-twenty-six : (t : tie.Then1) → length (t .before .before .before .before .args .digits .now) ≡ 26
-twenty-six t =
+parts : (t : tie.Then1)
+    → let s = t .before .before .before .before .args .digits .now in (eqb (length s) 26 ≡ true) × (every digit s ≡ true) × (not (zeros s) ≡ true)
+parts t =
     let s = t .before .before .before .before .args .digits .now in
-    eqb-true (length s) 26 (all3 (eqb (length s) 26) (every digit s) (not (zeros s)) .0 (formed t) .0)
+    all3 (eqb (length s) 26) (every digit s) (not (zeros s)) .0 (formed t)
+
+twenty-six : (t : tie.Then1) → length (t .before .before .before .before .args .digits .now) ≡ 26
+twenty-six t = eqb-true (length (t .before .before .before .before .args .digits .now)) 26 (parts t .0)
 
 returns : tie.Need-returns
 returns c =
     let s = c .before .before .before .before .before .args .digits .now in
     no-room (formed (c .before)) (omega (arith, c .if2 .taken, twenty-six (c .before), length-append s (checkDigit s ∷ [])))
 
-check-digit-requires : tie.Need-check-digit-requires
-check-digit-requires c κs = search needs
+check-digit-of-digits-requires : tie.Need-check-digit-of-digits-requires
+check-digit-of-digits-requires c κs = parts (c .before) .1
 
 lay-at-requires : tie.Need-lay-at-requires
 lay-at-requires c κs = let left = c .before .before in omega (arith, left .if2 .left, twenty-six (left .before))
@@ -53,13 +57,13 @@ same-length c = search needs
 abbrev behind-digits : tie.After-lay-at2 → tie.After-lay-at
 behind-digits q = q .before .before .before .before .before
 
-abbrev behind-check : tie.After-lay-at2 → tie.After-check-digit
+abbrev behind-check : tie.After-lay-at2 → tie.After-check-digit-of-digits
 behind-check q = behind-digits q .before .before
 
 returns-2 : tie.Need-returns-2
 returns-2 c =
     let q = c .before .before in
-    let check = behind-check q .check-digit in
+    let check = behind-check q .check-digit-of-digits in
     let left = behind-check q .before in
     let a = left .before .before .before .before .before .args in
     let s = a .digits .now in
@@ -78,7 +82,7 @@ make-qrr-spec =
     (tie.spec
     qrr-part-requires
     returns
-    check-digit-requires
+    check-digit-of-digits-requires
     lay-at-requires
     slice-aggregate-lay-at
     lay-at-requires-2

@@ -6,12 +6,12 @@ use Rattle.making.proofs.Laid.{two-stored}
 use Rattle.making.proofs.set_pair.Statement.{statement}
 use Rattle.making.proofs.set_pair.Tie as tie
 
-remainder97-by-table-requires : tie.Need-remainder97-by-table-requires
-remainder97-by-table-requires c κs = search needs
+remainder97-requires : tie.Need-remainder97-requires
+remainder97-requires c κs = search needs
 
 sub-pair : tie.Need-sub-pair
 unfolding remainder97
-sub-pair c = omega (arith, c .remainder97-by-table .ensures)
+sub-pair c = omega (arith, c .remainder97 .ensures)
 
 cast-text : tie.Need-cast-text
 cast-text c = search needs
@@ -35,13 +35,13 @@ same-length : tie.Need-same-length
 same-length c = search needs
 
 returns : tie.Need-returns
-returns c = let start = c .before .before .before in rw (c .remainder97-by-table .ensures) (two-stored (start .args .text .now) _ _ (start .pre))
+returns c = let start = c .before .before .before in rw (c .remainder97 .ensures) (two-stored (start .args .text .now) _ _ (start .pre))
 
 pub set-pair-spec : {M : Type 1} → statement M
 set-pair-spec =
     tie.close
     (tie.spec
-    remainder97-by-table-requires
+    remainder97-requires
     sub-pair
     cast-text
     add-text
