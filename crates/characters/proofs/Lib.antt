@@ -4,4 +4,3 @@ pub mod Lowest
 pub mod Marked
 pub mod OneAnswer
 pub mod Runs
-pub mod Words

@@ -10,7 +10,7 @@ pub one-characters-in : OneAnswer fn.characters_in.ended fn.characters_in.Reads.
 one-characters-in κs a x y v w h k = (h ∙ sym k, refl)
 
 pub one-marks-at : OneAnswer fn.marks_at.ended fn.marks_at.Reads.Learnt
-one-marks-at κs a x y v w h k = (h .0 ∙ sym (k .0), refl)
+one-marks-at κs a x y v w h k = (h ∙ sym k, refl)
 
 pub one-first-marked : OneAnswer fn.first_marked.ended fn.first_marked.Reads.Learnt
 one-first-marked κs a x y v w h k = (h ∙ sym k, refl)

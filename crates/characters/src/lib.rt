@@ -1,17 +1,16 @@
-// Characters of any bytes: runs of those that have one byte, also eight bytes at once, and how wide a character of a set
-// is.
+// Characters of any bytes: runs of those that have one byte, marks of sixteen bytes at once, and how wide a character of a
+// set is.
 use runs::Kind;
 use runs::of_kind;
 use sieve::Charset;
-use std::num::wrapping_add_u64;
 ghost use mathlib.Core.Path.{_≡_};
 ghost use Prim.Native.Nat.{_*_, _+_, _≤_, _<_};
+ghost use lib.Count.{trailingZeros};
 ghost use lib.ListN.{drop, getD, length, take};
 ghost use Rattle.sieve.specs.Iso8859.{isoByte};
 ghost use Rattle.sieve.specs.Latin.{inOne, inTwo, inThree, latin};
 ghost use Rattle.characters.specs.Runs.{run, accents, charactersIn};
-ghost use Rattle.characters.specs.Words.{word};
-ghost use Rattle.characters.specs.Marks.{marksOf, firstMarked, withoutFirst, Marks};
+ghost use Rattle.characters.specs.Marks.{marksOf, withoutFirst};
 
 // The byte `k` places after `at`, and 0 past the end.
 fn byte(s: &[u8], at: usize, k: usize) -> u8
@@ -123,64 +122,42 @@ pub fn characters_in(set: Charset, s: &[u8], at: usize) -> usize
     }
 }
 
-// Added to eight bytes, it takes 20 (a space) off each; a byte that is less takes one more off the next.
-const LESS_SPACES: u64 = 0xDFDFDFDFDFDFDFE0;
-
-// Eight times 1.
-const ONES: u64 = 0x0101010101010101;
-
-// The highest bit of each of eight bytes.
-const HIGHEST: u64 = 0x8080808080808080;
-
-// A byte as a wider number.
-fn wide(x: u8) -> u64
-    ensures { λ r. ⌜ (r ≡ x) × (r < 256) ⌝ }
+// The mark of the byte at a place: 1 where it is no character by itself, else 0.
+fn mark(s: &[u8], at: usize) -> u32
+    requires { ⌜ at + 1 ≤ length (now s) ⌝ }
+    ensures { λ r. ⌜ (r ≡ marksOf (take 1 (drop at (now (s .entry))))) × (r < 2) ⌝ }
 {
-    x as u64
+    (!of_kind(Kind::Plain, s[at])) as u32
 }
 
-// Up to eight bytes as one number, the first the lowest. The compiler reads eight at once.
-fn word(s: &[u8]) -> u64
-    requires { ⌜ length (now s) ≤ 8 ⌝ }
-    ensures { λ r. ⌜ r ≡ word (now (s .entry)) ⌝ }
+// The marks of four bytes. So put together, of 32 bits, the compiler finds those of sixteen bytes at once.
+fn four_marks(s: &[u8], at: usize) -> u32
+    requires { ⌜ at + 4 ≤ length (now s) ⌝ }
+    ensures { λ r. ⌜ (r ≡ marksOf (take 4 (drop at (now (s .entry))))) × (r < 16) ⌝ }
 {
-    let mut w: u64 = 0;
-    let mut i = s.len();
-    while 0 < i {
-        i -= 1;
-        w = 256 * w + wide(s[i]);
-    }
-    w
+    mark(s, at) + 2 * mark(s, at + 1) + 4 * mark(s, at + 2) + 8 * mark(s, at + 3)
 }
 
-// The marks of the eight bytes of a number: the highest bit of each that is no character by itself. A byte below 20 has
-// it once 20 is taken off, so has FF, and DEL and what is above it once 1 is added. A byte that is a character may be
-// marked too, where the one before it is below 20 or FF.
-fn marks(w: u64) -> u64
-    ensures { λ r. ⌜ r ≡ marksOf 8 w ⌝ }
+// The marks of the sixteen bytes from `at` on, a bit for each, the first byte's the lowest.
+pub fn marks_at(s: &[u8], at: usize) -> u32
+    requires { ⌜ at + 16 ≤ length (now s) ⌝ }
+    ensures { λ r. ⌜ r ≡ marksOf (take 16 (drop at (now (s .entry)))) ⌝ }
 {
-    (wrapping_add_u64(w, LESS_SPACES) | wrapping_add_u64(w, ONES)) & HIGHEST
+    four_marks(s, at)
+        + 16 * four_marks(s, at + 4)
+        + 256 * four_marks(s, at + 8)
+        + 4096 * four_marks(s, at + 12)
 }
 
-// The marks of the eight bytes from `at` on.
-pub fn marks_at(s: &[u8], at: usize) -> u64
-    requires { ⌜ at + 8 ≤ length (now s) ⌝ }
-    ensures { λ r. ⌜ r ≡ marksOf 8 (word (take 8 (drop at (now (s .entry))))) ⌝ }
-    ensures { λ r. ⌜ Marks r (take 8 (drop at (now (s .entry)))) ⌝ }
+// Which byte is the first that is marked, counted from 0; 32 where none is.
+pub fn first_marked(marks: u32) -> usize
+    ensures { λ r. ⌜ r ≡ trailingZeros 32 marks ⌝ }
 {
-    let to = at + 8;
-    marks(word(&s[at..to]))
+    u32::trailing_zeros(marks) as usize
 }
 
-// Which byte is the first that is marked, counted from 0; 8 where none is.
-pub fn first_marked(marks: u64) -> usize
-    ensures { λ r. ⌜ r ≡ firstMarked 8 marks ⌝ }
-{
-    (u64::trailing_zeros(marks) / 8) as usize
-}
-
-// The marks without the first, which is the lowest of its bits.
-pub fn later_marks(marks: u64) -> u64
+// The marks without the first, which is the lowest of their bits.
+pub fn later_marks(marks: u32) -> u32
     requires { ⌜ 0 < marks ⌝ }
     ensures { λ r. ⌜ r ≡ withoutFirst marks ⌝ }
 {

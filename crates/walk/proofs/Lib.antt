@@ -1,5 +1,5 @@
 pub mod Stepping
-pub mod ByEights
+pub mod BySixteens
 pub mod Coming
 pub mod Telling
 pub mod OneAnswer

@@ -13,14 +13,14 @@ use sieve::Charset;
 use sieve::WALK_LINES;
 use sieve::WALK_NUMBERS;
 ghost use mathlib.Core.Path.{_≡_};
-ghost use Prim.Native.Nat.{_-_, _≤_};
+ghost use Prim.Native.Nat.{_≤_};
 ghost use lib.ListN.{length};
 ghost use Rattle.sieve.specs.Places.{walkNumbers};
 ghost use Rattle.sieve.specs.Characters.{badPlace};
 ghost use Rattle.sieve.specs.Charsets.{ofSet};
 ghost use Rattle.lines.specs.Parted.{breaksIn};
 ghost use Rattle.places.specs.Listed.{greatest, listed, listedShort, listedOf, Filled};
-ghost use Rattle.walk.specs.Here.{Reached, GoneOn, Arrived, AllBehind};
+ghost use Rattle.walk.specs.Here.{Reached, Inside, GoneThrough, GoneOn, Arrived, AllBehind};
 ghost use Rattle.walk.specs.Walking.{noted, onePassed, Passable, IsTold};
 
 // The greatest number of 16 bits.
@@ -53,6 +53,17 @@ struct Standing {
     at: usize,
 }
 
+// Where the walk stands among sixteen bytes: the lines behind it, and the marks of the bytes that are not.
+struct Ahead {
+    passed: Behind,
+    left: u32,
+}
+
+// How many bytes are marked at once, and a mark for each of them.
+const WINDOW: usize = 16;
+
+const ALL: u32 = 0xFFFF;
+
 // Notes a line behind n others, where it is among the lines that are listed. Of longer numbers 16 bits are noted. The
 // list comes as a slice, since a proof learns how many numbers an array has where the array is lent as one.
 fn note(places: &mut [u16], n: usize, start: usize, bytes: usize)
@@ -79,47 +90,97 @@ fn pass(places: &mut [u16], passed: Behind, bytes: usize, at: usize, width: usiz
     }
 }
 
-// How many places of n bytes have eight bytes from there on.
-fn eights(n: usize) -> usize
-    ensures { λ r. ⌜ r ≡ n - 7 ⌝ }
+// Passes lines that end with LF among sixteen bytes, from mark to mark: to a mark that is no LF, or to the end of the
+// list.
+fn pass_feeds(s: &[u8], places: &mut [u16; WALK_NUMBERS], from: usize, ahead: Ahead) -> Ahead
+    requires { ⌜ Inside (now s) (now places) from ahead ⌝ }
+    ensures { λ r. ⌜ GoneThrough (now (s .entry)) (now (places .entry)) from ahead (now (places .exit)) r ⌝ }
 {
-    if n < 7 { 0 } else { n - 7 }
+    let mut p = ahead.passed;
+    let mut left = ahead.left;
+    while left != 0 {
+        let at = from + first_marked(left);
+        if WALK_LINES <= p.feeds {
+            break;
+        }
+        if s[at] != 10 {
+            break;
+        }
+        p = pass(places, p, at - p.start, at, 1);
+        left = later_marks(left);
+    }
+    Ahead { passed: p, left }
 }
 
-// Passes lines of characters by themselves, eight bytes at once, from the start of a line on: to a byte that is neither
-// such a character nor of a break, to the end of the list, or to where fewer than eight bytes are left.
+// Passes lines that end with CR LF, in the same way: CR and LF are both marked. A break of which only CR is among the
+// sixteen bytes is left.
+fn pass_returns(s: &[u8], places: &mut [u16; WALK_NUMBERS], from: usize, ahead: Ahead) -> Ahead
+    requires { ⌜ Inside (now s) (now places) from ahead ⌝ }
+    ensures { λ r. ⌜ GoneThrough (now (s .entry)) (now (places .entry)) from ahead (now (places .exit)) r ⌝ }
+{
+    let mut p = ahead.passed;
+    let mut left = ahead.left;
+    while left != 0 {
+        let at = from + first_marked(left);
+        let later = later_marks(left);
+        if later == 0 {
+            break;
+        }
+        if WALK_LINES <= p.feeds {
+            break;
+        }
+        if s[at] != 13 {
+            break;
+        }
+        if s[at + 1] != 10 {
+            break;
+        }
+        p = pass(places, p, at - p.start, at, 2);
+        left = later_marks(later);
+    }
+    Ahead { passed: p, left }
+}
+
+// Passes lines of characters by themselves, sixteen bytes at once, from the start of a line on: to a byte that is neither
+// such a character nor of a break like those before it, to the end of the list or to that of the bytes. The last sixteen
+// bytes are asked whole; of their marks those are kept that are not behind the walk.
 fn pass_lines(s: &[u8], places: &mut [u16; WALK_NUMBERS], passed: Behind) -> Standing
     requires { ⌜ Reached (now s) (now places) (passed .start) passed ⌝ }
     ensures { λ r. ⌜ GoneOn (now (s .entry)) (now (places .entry)) passed (now (places .exit)) r ⌝ }
 {
-    let starts = eights(s.len());
     let mut p = passed;
     let mut from = p.start;
-    'words: while from < starts {
-        let mut left = marks_at(s, from);
-        while left != 0 {
-            let at = from + first_marked(left);
-            if WALK_LINES <= p.feeds {
-                return Standing { passed: p, at };
-            }
-            let mark = s[at];
-            if mark == 10 {
-                p = pass(places, p, at - p.start, at, 1);
-                left = later_marks(left);
-            } else {
-                if (mark == 13) & feed_after(s, at) {
-                    p = pass(places, p, at - p.start, at, 2);
-                    from = at + 2;
-                    continue 'words;
-                }
-                return Standing { passed: p, at };
-            }
-        }
-        from += 8;
+    if s.len() < WINDOW {
+        return Standing {
+            passed: p,
+            at: from,
+        };
     }
-    Standing {
-        passed: p,
-        at: from,
+    let last = s.len() - WINDOW;
+    let mut keep = ALL;
+    loop {
+        while from <= last {
+            let left = marks_at(s, from) & keep;
+            let fed = pass_feeds(s, places, from, Ahead { passed: p, left });
+            let returned = pass_returns(s, places, from, fed);
+            p = returned.passed;
+            if returned.left != 0 {
+                return Standing {
+                    passed: p,
+                    at: from + first_marked(returned.left),
+                };
+            }
+            keep = ALL;
+            from += WINDOW;
+        }
+        if from == s.len() {
+            return Standing {
+                passed: p,
+                at: from,
+            };
+        }
+        keep = ALL << ((from - last) as u32);
+        from = last;
     }
 }
 
@@ -131,7 +192,7 @@ const NONE_PASSED: Behind = Behind {
 
 // Walks line by line, and in each line character by character, to the first place where neither a character nor a
 // break begins, or behind the last byte. What ends a line is one LF, alone or after CR. Most lines are of characters that
-// are one byte in each set, 20 to 7E, and are passed eight bytes at once; only from where that ends is a line walked by
+// are one byte in each set, 20 to 7E, and are passed sixteen bytes at once; only from where that ends is a line walked by
 // itself. Where it stops is noted there: as a place that lives on behind the loops, `at` costs the compiler a register.
 fn come(s: &[u8], set: Charset, places: &mut [u16; WALK_NUMBERS]) -> Standing
     ensures { λ r. ⌜ Arrived set (now (s .entry)) (now (places .exit)) r ⌝ }

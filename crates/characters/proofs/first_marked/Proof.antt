@@ -1,15 +1,15 @@
 -- `characters::first_marked` meets its contract. Assumes nothing.
 use native.Mathlib.Omega.{arith}
 use lib.Count.{trailing-le}
-use Rattle.characters.proofs.Lowest.{first-byte}
+use borrow.Author.Needs.{needs}
 use Rattle.characters.proofs.first_marked.Statement.{statement}
 use Rattle.characters.proofs.first_marked.Tie as tie
 
 cast-result : tie.Need-cast-result
-cast-result c = record { fits = omega (arith, trailing-le 64 (c .args .marks)) }
+cast-result c = record { fits = omega (arith, trailing-le 32 (c .args .marks)) }
 
 returns : tie.Need-returns
-returns c = first-byte 8 (c .args .marks)
+returns c = search needs
 
 pub first-marked-spec : {M : Type 1} → statement M
 first-marked-spec = tie.close (tie.spec cast-result returns)

@@ -1,211 +1,198 @@
--- `walk::pass_lines` meets its contract. The outer loop keeps where the walk has come to, the inner one which of eight bytes are passed. Assumes nothing.
-use Prim.Native.Nat.{ℕ, _+_, _-_, _≤_, _<_}
+-- `walk::pass_lines` meets its contract. Both loops keep where the walk stands, the inner one by how many sixteens it has gone on. Assumes nothing.
+use Prim.Native.Nat.{ℕ, _+_, _-_, _*_, _%_, _^_, _≤_, _<_}
 use native.Mathlib.Omega.{arith}
+use mathlib.Core.Bool.{Bool, true, false, cond}
 use mathlib.Core.List.{List}
 use mathlib.Core.Path.{_≡_, refl}
-use lib.Count.{trailingZeros}
-use lib.Pow.{pow-pos}
+use lib.Bits.{bitAnd}
+use lib.Dec.{ltb}
 use lib.ListN.{length}
+use lib.Pow.{shl-exact}
+use borrow.Author.Tests.{ltb-false, le-ltb}
 use borrow.Author.Needs.{needs}
 use Rattle.sieve.specs.Bytes.{Bytes}
 use Rattle.walk.specs.declared.Behind.{Behind}
-use Rattle.walk.specs.Here.{Here}
-use Rattle.walk.specs.Walking.{noted, onePassed}
-use Rattle.walk.proofs.Coming.{line-feed, carriage-return, a-break-passed, passable}
-use Rattle.walk.proofs.ByEights.{Going, stays, and-on, and-on-from, told, Turn, turns, to-mark, in-eight, over-mark, all-eight}
+use Rattle.walk.specs.Here.{Going, Among, Inside, Through, GoneThrough}
+use Rattle.walk.proofs.BySixteens.{stays, told, standing, mark-among, and-through, On, Onward, afresh, no-sixteen, among-kept, all-before, the-last, on-to-mark, past}
 use Rattle.walk.proofs.pass_lines.Statement.{statement}
 use Rattle.walk.proofs.pass_lines.Tie as tie
 
+abbrev Inv-loop2 : tie.InvT-loop2
+Inv-loop2 s places₀ p₀ from₀ last keep₀ places p from keep = Onward s places₀ from₀ keep₀ p₀ places from keep p
+
+abbrev μ-loop2 : tie.MeasureT-loop2
+μ-loop2 s places₀ p₀ from₀ last keep₀ places p from keep = length s - from
+
 abbrev Inv-loop : tie.InvT-loop
-Inv-loop s places₀ starts p₀ from₀ left₀ places p from left = (from ≡ from₀) × Turn s places₀ from p₀ places p left
+Inv-loop s places₀ p₀ from₀ last keep₀ places p from keep = On s places₀ from₀ p₀ places from keep p
 
 abbrev μ-loop : tie.MeasureT-loop
-μ-loop s places₀ starts p₀ from₀ left₀ places p from left = left
+μ-loop s places₀ p₀ from₀ last keep₀ places p from keep = cond (ltb last from) (length s + 1) (length s - from)
 
-abbrev Inv-words : tie.InvT-words
-Inv-words s places₀ starts p₀ from₀ places p from = Going s places₀ from₀ p₀ places from p
+-- the outer loop, from the inner one; the bytes, the list that was lent, and where the walk stood
+abbrev outer : tie.At-loop2 Inv-loop2 μ-loop2 Inv-loop μ-loop → tie.At-loop Inv-loop2 μ-loop2 Inv-loop μ-loop
+outer l = l .before
 
-abbrev μ-words : tie.MeasureT-words
-μ-words s places₀ starts p₀ from₀ places p from = length s - from
+abbrev text : tie.At-loop Inv-loop2 μ-loop2 Inv-loop μ-loop → Bytes
+text o = o .before .before .before .args .s .now
 
--- the outer loop, from the inner one; and from it the bytes, and how the walk has come there
-abbrev words-of : tie.At-loop Inv-loop μ-loop Inv-words μ-words → tie.At-words Inv-loop μ-loop Inv-words μ-words
-words-of l = l .before .before .before
+abbrev lent : tie.At-loop Inv-loop2 μ-loop2 Inv-loop μ-loop → List ℕ
+lent o = o .before .before .before .args .places .now
 
-abbrev text : tie.At-words Inv-loop μ-loop Inv-words μ-words → Bytes
-text w = w .before .before .before .args .s .now
+abbrev stood : tie.At-loop Inv-loop2 μ-loop2 Inv-loop μ-loop → Behind
+stood o = o .before .before .before .args .passed
 
--- the inner loop, from where a mark is found
-abbrev loop-of : tie.After-first-marked Inv-loop μ-loop Inv-words μ-words → tie.At-loop Inv-loop μ-loop Inv-words μ-words
-loop-of f = f .before .before
+-- sixteen bytes are there
+long : (o : tie.At-loop Inv-loop2 μ-loop2 Inv-loop μ-loop) → 16 ≤ length (text o)
+long o = omega (arith, o .before .if1 .left)
 
--- eight bytes are there
-eight : (l : tie.At-loop Inv-loop μ-loop Inv-words μ-words) → l .loop .from + 8 ≤ length (text (words-of l))
-eight l = omega (arith, l .loop .inv .0, l .before .before .words-test .taken, words-of l .before .eights .ensures)
+counted : (o : tie.At-loop Inv-loop2 μ-loop2 Inv-loop μ-loop) → length (text o) < 2 ^ 64
+counted o = search needs
 
--- from the first line on: where a place in these eight bytes is
-from-first : (l : tie.At-loop Inv-loop μ-loop Inv-words μ-words) {places : List ℕ} {at : ℕ} {p : Behind} → let w = words-of l in Going (text w) (w .words .places) (l .loop .from) (w .words .p) places at p → let a = w .before .before .before .args in Going (text w) (a .places .now) (a .passed .start) (a .passed) places at p
-from-first l g = and-on-from (l .loop .inv .0) (words-of l .words .inv) g
+-- where the walk stands
+on : (l : tie.At-loop2 Inv-loop2 μ-loop2 Inv-loop μ-loop) → let o = outer l in On (text o) (lent o) (stood o .start) (stood o) (l .loop2 .places) (l .loop2 .from) (l .loop2 .keep) (l .loop2 .p)
+on l = l .loop2 .inv .on _ _ _ (outer l .loop .inv)
 
-some : (f : tie.After-first-marked Inv-loop μ-loop Inv-words μ-words) → 0 < loop-of f .loop .left
-some f = omega (arith, f .before .loop-test .taken)
+returns : tie.Need-returns Inv-loop2 μ-loop2 Inv-loop μ-loop
+returns c = told (stays _ _ _ _)
 
--- where the first mark is
-marked : (f : tie.After-first-marked Inv-loop μ-loop Inv-words μ-words) → let l = loop-of f in let w = words-of l in Going (text w) (w .words .places) (l .loop .from) (w .words .p) (l .loop .places) (l .loop .from + f .first-marked .result) (l .loop .p)
-marked f = let l = loop-of f in to-mark _ _ _ _ _ _ _ (eight l) (l .loop .inv .1) (some f) _ (f .first-marked .ensures)
+sub-last : tie.Need-sub-last Inv-loop2 μ-loop2 Inv-loop μ-loop
+sub-last c = search needs
 
-there : (f : tie.After-first-marked Inv-loop μ-loop Inv-words μ-words) → let l = loop-of f in l .loop .from + f .first-marked .result < length (text (words-of l))
-there f = let l = loop-of f in omega (arith, eight l, in-eight _ _ _ _ _ _ _ (eight l) (l .loop .inv .1) (some f) _ (f .first-marked .ensures))
+loop-holds : tie.Need-loop-holds Inv-loop2 μ-loop2 Inv-loop μ-loop
+loop-holds c = afresh (stays _ _ _ _)
 
-here : (f : tie.After-first-marked Inv-loop μ-loop Inv-words μ-words) → let l = loop-of f in let b = words-of l .before .before .before .pre in Here (b .set) (text (words-of l)) (l .loop .places) (l .loop .from + f .first-marked .result) (l .loop .p)
-here f = let l = loop-of f in let b = words-of l .before .before .before .pre in from-first l (marked f) .onward (b .set) (b .here)
+loop2-holds : tie.Need-loop2-holds Inv-loop2 μ-loop2 Inv-loop μ-loop
+loop2-holds c = no-sixteen _ _ _ _ _
 
--- where a line ends with LF, and where it ends with CR LF
-abbrev at-feed : tie.After-struct-known2 Inv-loop μ-loop Inv-words μ-words → tie.After-first-marked Inv-loop μ-loop Inv-words μ-words
-at-feed c = c .before .before .before .before .before .before
+whole : (c : tie.In-loop2 Inv-loop2 μ-loop2 Inv-loop μ-loop) → c .before .loop2 .from + 16 ≤ length (text (outer (c .before)))
+whole c = omega (arith, c .loop2-test .taken, long (outer (c .before)))
 
-abbrev at-return : tie.After-struct-known3 Inv-loop μ-loop Inv-words μ-words → tie.After-first-marked Inv-loop μ-loop Inv-words μ-words
-at-return c = c .before .before .before .before .before .before .before .before
+marks-at-requires : tie.Need-marks-at-requires Inv-loop2 μ-loop2 Inv-loop μ-loop
+marks-at-requires c κs = whole c
 
--- over a break of b bytes
-abbrev Over : tie.After-first-marked Inv-loop μ-loop Inv-words μ-words → ℕ → Type 0
-Over f b =
-    let l = loop-of f in
-    let at = l .loop .from + f .first-marked .result in
-    let p = l .loop .p in
-    Going (text (words-of l)) (l .loop .places) at p (noted (l .loop .places) (p .feeds) (p .start) (at - p .start)) (at + b) (onePassed p at b)
+-- the marks that are kept
+among : (m : tie.After-marks-at Inv-loop2 μ-loop2 Inv-loop μ-loop) → let l = m .before .before in Among (text (outer l)) (l .loop2 .from) (on l .skip) (bitAnd (m .marks-at .result) (l .loop2 .keep))
+among m = among-kept (on (m .before .before)) (whole (m .before)) _ (m .marks-at .ensures)
 
-over-feed : (c : tie.After-struct-known2 Inv-loop μ-loop Inv-words μ-words) → Over (at-feed c) 1
-over-feed c =
-    let f = at-feed c in
-    record {
-      onward = λ set h. let (z, e) = line-feed set (text (words-of (loop-of f))) _ (there f) (c .before .before .if2 .taken) in a-break-passed set _ _ _ _ h (c .before .pass-arg .given .0 .1) 1 (there f) z e (λ q. omega arith);
-      forward = omega arith;
-    }
+inside : (m : tie.After-marks-at Inv-loop2 μ-loop2 Inv-loop μ-loop) → let l = m .before .before in Inside (text (outer l)) (l .loop2 .places) (l .loop2 .from) (record { passed = l .loop2 .p; left = bitAnd (m .marks-at .result) (l .loop2 .keep) })
+inside m =
+    let l = m .before .before in
+    let pre = outer l .before .before .before .pre in
+    record { behind = on l .skip; among = among m; reached = record { set = pre .set; here = on l .going .onward (pre .set) (pre .here) } }
 
-over-return : (c : tie.After-struct-known3 Inv-loop μ-loop Inv-words μ-words) → Over (at-return c) 2
-over-return c =
-    let f = at-return c in
-    let found = c .before .before in
-    let returned = rw (found .before .feed-after .ensures) at (found .if3 .taken) in
-    record {
-      onward = λ set h. let (fits, (z, e)) = carriage-return set (text (words-of (loop-of f))) _ (there f) returned in a-break-passed set _ _ _ _ h (c .before .pass-arg2 .given .0 .1) 2 (there f) z e (λ q. omega arith);
-      forward = omega arith;
-    }
+pass-feeds-requires : tie.Need-pass-feeds-requires Inv-loop2 μ-loop2 Inv-loop μ-loop
+pass-feeds-requires c κs = inside (c .before)
 
--- the byte behind that break is no more than the end
-behind-return : (c : tie.After-struct-known3 Inv-loop μ-loop Inv-words μ-words) → let f = at-return c in let l = loop-of f in l .loop .from + f .first-marked .result + 2 ≤ length (text (words-of l))
-behind-return c = let f = at-return c in let b = words-of (loop-of f) .before .before .before .pre in over-return c .onward (b .set) (here f) .within
+pass-returns-requires : tie.Need-pass-returns-requires Inv-loop2 μ-loop2 Inv-loop μ-loop
+pass-returns-requires c κs = standing (inside (c .before .before .before)) (c .before .pass-feeds .ensures)
 
-eights-requires : tie.Need-eights-requires Inv-loop μ-loop Inv-words μ-words
-eights-requires c κs = search needs
+-- through the sixteen bytes, from where lines that end with CR LF are passed too
+abbrev marks-of : tie.After-pass-returns Inv-loop2 μ-loop2 Inv-loop μ-loop → tie.After-marks-at Inv-loop2 μ-loop2 Inv-loop μ-loop
+marks-of r = r .before .before .before .before
 
-words-holds : tie.Need-words-holds Inv-loop μ-loop Inv-words μ-words
-words-holds c = stays _ _ _ _
+abbrev turn-of : tie.After-pass-returns Inv-loop2 μ-loop2 Inv-loop μ-loop → tie.At-loop2 Inv-loop2 μ-loop2 Inv-loop μ-loop
+turn-of r = marks-of r .before .before
 
-marks-at-requires : tie.Need-marks-at-requires Inv-loop μ-loop Inv-words μ-words
-marks-at-requires c κs = omega (arith, c .words-test .taken, c .before .before .eights .ensures)
+gone : (r : tie.After-pass-returns Inv-loop2 μ-loop2 Inv-loop μ-loop) → let l = turn-of r in GoneThrough (text (outer l)) (l .loop2 .places) (l .loop2 .from) (record { passed = l .loop2 .p; left = bitAnd (marks-of r .marks-at .result) (l .loop2 .keep) }) (r .pass-returns .last .1 .0) (r .pass-returns .result)
+gone r = and-through (r .before .before .pass-feeds .ensures) (r .pass-returns .ensures)
 
-loop-holds : tie.Need-loop-holds Inv-loop μ-loop Inv-words μ-words
-loop-holds c = (refl, turns _ _ _ _ _ (c .marks-at .ensures .1))
+through : (r : tie.After-pass-returns Inv-loop2 μ-loop2 Inv-loop μ-loop) → let l = turn-of r in Through (text (outer l)) (l .loop2 .places) (l .loop2 .from) (on l .skip) (l .loop2 .p) (r .pass-returns .last .1 .0) (r .pass-returns .result)
+through r = gone r (on (turn-of r) .skip) (among (marks-of r))
 
-first-marked-requires : tie.Need-first-marked-requires Inv-loop μ-loop Inv-words μ-words
+-- a mark that is left, and where it is found
+some : (f : tie.After-first-marked Inv-loop2 μ-loop2 Inv-loop μ-loop) → 0 < f .before .before .before .before .pass-returns .result .left
+some f = omega (arith, f .before .if2 .taken)
+
+first-marked-requires : tie.Need-first-marked-requires Inv-loop2 μ-loop2 Inv-loop μ-loop
 first-marked-requires c κs = search needs
 
-add-at : tie.Need-add-at Inv-loop μ-loop Inv-words μ-words
-add-at c = record { fits = omega (arith, there c) }
+add-t19 : tie.Need-add-t19 Inv-loop2 μ-loop2 Inv-loop μ-loop
+add-t19 c = let r = c .before .before .before .before in record { fits = omega (arith, counted (outer (turn-of r)), whole (marks-of r .before), mark-among (standing (inside (marks-of r)) (gone r)) (some c) (c .first-marked .ensures)) }
 
-returns : tie.Need-returns Inv-loop μ-loop Inv-words μ-words
-returns c = let f = c .before .before in told (from-first (loop-of f) (marked f))
+returns-2 : tie.Need-returns-2 Inv-loop2 μ-loop2 Inv-loop μ-loop
+returns-2 c = let r = c .before .before .before .before in told (on-to-mark (on (turn-of r)) (through r) (some c) (c .first-marked .ensures))
 
-shared-slice-read-mark : tie.Need-shared-slice-read-mark Inv-loop μ-loop Inv-words μ-words
-shared-slice-read-mark c = there (c .before .before .before)
+add-from : tie.Need-add-from Inv-loop2 μ-loop2 Inv-loop μ-loop
+add-from c = record { fits = omega (arith, whole (marks-of (c .before .before .before) .before)) }
 
-sub-pass : tie.Need-sub-pass Inv-loop μ-loop Inv-words μ-words
-sub-pass c = here (at-feed c) .before
+loop2-less : tie.Need-loop2-less Inv-loop2 μ-loop2 Inv-loop μ-loop
+loop2-less c = omega (arith, whole (marks-of (c .before .before .before) .before))
 
-pass-requires : tie.Need-pass-requires Inv-loop μ-loop Inv-words μ-words
-pass-requires c κs = (c .before .pass-arg .given .0 .1, passable 1 (here (at-feed c)) (omega arith) (omega (arith, there (at-feed c))))
+loop2-again : tie.Need-loop2-again Inv-loop2 μ-loop2 Inv-loop μ-loop
+loop2-again c =
+    let r = c .before .before .before in
+    let m = marks-of r in
+    let l = turn-of r in
+    record {
+      sixteens = l .loop2 .inv .sixteens + 1;
+      place = omega (arith, l .loop2 .inv .place);
+      on = λ l₀ at p₀ o. let here = l .loop2 .inv .on l₀ at p₀ o in past here (gone r (here .skip) (among-kept here (whole (m .before)) _ (m .marks-at .ensures))) (c .if2 .left);
+    }
 
-later-marks-requires : tie.Need-later-marks-requires Inv-loop μ-loop Inv-words μ-words
-later-marks-requires c κs = some (at-feed (c .before))
+returns-3 : tie.Need-returns-3 Inv-loop2 μ-loop2 Inv-loop μ-loop
+returns-3 c = told (all-before (on (c .before .before)) (omega (arith, c .before .loop2-test .left, long (outer (c .before .before)))))
 
-loop-less : tie.Need-loop-less Inv-loop μ-loop Inv-words μ-words
-loop-less c = let f = at-feed (c .before .before) in let left = loop-of f .loop .left in omega (arith, c .later-marks .ensures, pow-pos (trailingZeros 64 left), some f)
+sub-keep : tie.Need-sub-keep Inv-loop2 μ-loop2 Inv-loop μ-loop
+sub-keep c = omega (arith, c .before .loop2-test .left)
 
-loop-again : tie.Need-loop-again Inv-loop μ-loop Inv-words μ-words
+-- the walk is not past the end
+in-bytes : (l : tie.At-loop2 Inv-loop2 μ-loop2 Inv-loop μ-loop) → l .loop2 .from ≤ length (text (outer l))
+in-bytes l = let pre = outer l .before .before .before .pre in omega (arith, on l .going .onward (pre .set) (pre .here) .within)
+
+-- fewer than sixteen bytes are left, but some
+near : (c : tie.Else3 Inv-loop2 μ-loop2 Inv-loop μ-loop) → let l = c .before .before in (length (text (outer l)) - 16 < l .loop2 .from) × (l .loop2 .from < length (text (outer l)))
+near c = (omega (arith, c .before .loop2-test .left), omega (arith, in-bytes (c .before .before), c .if3 .left))
+
+cast-keep : tie.Need-cast-keep Inv-loop2 μ-loop2 Inv-loop μ-loop
+cast-keep c = record { fits = omega (arith, near c .1) }
+
+shl-keep : tie.Need-shl-keep Inv-loop2 μ-loop2 Inv-loop μ-loop
+shl-keep c = omega (arith, near c .1)
+
+-- where the last sixteen bytes are asked again, they were not the last to be asked
+ends : (size last from place n : ℕ) → last + 16 ≡ size → place ≡ from + 16 * n → last < place → place < size → cond (ltb last last) (size + 1) (size - last) < cond (ltb last from) (size + 1) (size - from)
+ends size last from place n whole on past within = rw (le-ltb last last (omega arith)) (by-cases (ltb last from) refl)
+  where
+    by-cases : (b : Bool) → ltb last from ≡ b → size - last < cond b (size + 1) (size - from)
+    by-cases true e = omega arith
+    by-cases false e = omega (arith, ltb-false last from e)
+
+loop-less : tie.Need-loop-less Inv-loop2 μ-loop2 Inv-loop μ-loop
+loop-less c = let l = c .before .before in ends _ _ (outer l .loop .from) _ (l .loop2 .inv .sixteens) (omega (arith, long (outer l))) (l .loop2 .inv .place) (near c .0) (near c .1)
+
+loop-again : tie.Need-loop-again Inv-loop2 μ-loop2 Inv-loop μ-loop
 loop-again c =
-    let k = c .before .before in
-    let f = at-feed k in
-    let l = loop-of f in
-    let (one-more, noting) = c .before .pass .ensures in
-    (l .loop .inv .0, rw (c .later-marks .ensures, noting, one-more) (over-mark _ _ _ _ _ _ _ (eight l) (l .loop .inv .1) (some f) _ (f .first-marked .ensures) _ _ (over-feed k)))
-
-feed-after-requires : tie.Need-feed-after-requires Inv-loop μ-loop Inv-words μ-words
-feed-after-requires c κs = there (c .before .before .before .before)
-
-sub-pass-2 : tie.Need-sub-pass-2 Inv-loop μ-loop Inv-words μ-words
-sub-pass-2 c = here (at-return c) .before
-
-pass-requires-2 : tie.Need-pass-requires-2 Inv-loop μ-loop Inv-words μ-words
-pass-requires-2 c κs = (c .before .pass-arg2 .given .0 .1, passable 2 (here (at-return c)) (omega arith) (omega (arith, behind-return c)))
-
-add-from : tie.Need-add-from Inv-loop μ-loop Inv-words μ-words
-add-from c = record { fits = omega (arith, behind-return (c .before)) }
-
-words-less : tie.Need-words-less Inv-loop μ-loop Inv-words μ-words
-words-less c = let f = at-return (c .before) in omega (arith, there f, loop-of f .loop .inv .0)
-
-words-again : tie.Need-words-again Inv-loop μ-loop Inv-words μ-words
-words-again c =
-    let f = at-return (c .before) in
-    let (one-more, noting) = c .pass2 .ensures in
-    rw (noting, one-more) (from-first (loop-of f) (and-on (marked f) (over-return (c .before))))
-
-returns-2 : tie.Need-returns-2 Inv-loop μ-loop Inv-words μ-words
-returns-2 c = let f = c .before .before .before .before .before .before in told (from-first (loop-of f) (marked f))
-
-add-from-2 : tie.Need-add-from-2 Inv-loop μ-loop Inv-words μ-words
-add-from-2 c = record { fits = omega (arith, eight (c .before)) }
-
-words-less-2 : tie.Need-words-less-2 Inv-loop μ-loop Inv-words μ-words
-words-less-2 c = omega (arith, eight (c .before), c .before .loop .inv .0)
-
-words-again-2 : tie.Need-words-again-2 Inv-loop μ-loop Inv-words μ-words
-words-again-2 c = let l = c .before in from-first l (all-eight _ _ _ _ _ _ _ (eight l) (l .loop .inv .1) (c .loop-test .left))
-
-returns-3 : tie.Need-returns-3 Inv-loop μ-loop Inv-words μ-words
-returns-3 c = told (c .before .words .inv)
+    let l = c .before .before in
+    let last = length (text (outer l)) - 16 in
+    let skip = l .loop2 .from - last in
+    let exact : 0xFFFF * 2 ^ skip % 2 ^ 32 ≡ 0xFFFF * 2 ^ skip = shl-exact 16 skip 32 (omega arith) (omega (arith, near c .1)) in
+    rw exact (the-last (on l) last (omega (arith, long (outer l))) (near c .0) (near c .1))
 
 pub pass-lines-spec : {M : Type 1} → statement M
 pass-lines-spec =
     tie.close
     (tie.spec
+    Inv-loop2
+    μ-loop2
     Inv-loop
     μ-loop
-    Inv-words
-    μ-words
-    eights-requires
-    words-holds
-    marks-at-requires
-    loop-holds
-    first-marked-requires
-    add-at
     returns
-    shared-slice-read-mark
-    sub-pass
-    pass-requires
-    later-marks-requires
-    loop-less
-    loop-again
-    feed-after-requires
-    sub-pass-2
-    pass-requires-2
-    add-from
-    words-less
-    words-again
+    sub-last
+    loop-holds
+    loop2-holds
+    marks-at-requires
+    pass-feeds-requires
+    pass-returns-requires
+    first-marked-requires
+    add-t19
     returns-2
-    add-from-2
-    words-less-2
-    words-again-2
-    returns-3)
+    add-from
+    loop2-less
+    loop2-again
+    returns-3
+    sub-keep
+    cast-keep
+    shl-keep
+    loop-less
+    loop-again)
