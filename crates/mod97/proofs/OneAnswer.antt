@@ -18,9 +18,6 @@ one-remainder97-by-table κs a x y v w h k = (h ∙ sym k, refl)
 pub one-checks97 : OneAnswer fn.checks97.ended fn.checks97.Reads.Learnt
 one-checks97 κs a x y v w h k = (h ∙ sym k, refl)
 
-pub one-numeral : OneAnswer fn.numeral.ended fn.numeral.Reads.Learnt
-one-numeral κs a x y v w h k = (h ∙ sym k, refl)
-
 pub one-decimal : OneAnswer fn.decimal.ended fn.decimal.Reads.Learnt
 one-decimal κs a x y v w h k = (h ∙ sym k, refl)
 

@@ -219,20 +219,6 @@ pub fn checks97(s: &[u8]) -> bool
     (2 <= p) & (p <= 98) & (remainder97_by_table(s) == 1)
 }
 
-// The decimal number that the first nine characters of a text stand for. They make a number below 100 ^ 9, which a u64
-// holds.
-pub fn numeral(s: &[u8]) -> u64
-    ensures { λ r. ⌜ r ≡ numeral 0 (take 9 (now (s .entry))) ⌝ }
-{
-    let mut n = 0;
-    let mut i = 0;
-    while (i < 9) & (i < s.len()) {
-        n = extended(n, s[i]);
-        i += 1;
-    }
-    n
-}
-
 // The number that up to 18 digits stand for, which 64 bits hold.
 pub fn decimal(s: &[u8]) -> u64
     requires { ⌜ (every digit (now s) ≡ true) × (length (now s) ≤ 18) ⌝ }

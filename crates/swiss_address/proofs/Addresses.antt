@@ -2,7 +2,7 @@
 use Prim.Native.Nat.{ℕ, _+_}
 use native.Mathlib.Nat.{add-assoc}
 use native.Mathlib.Omega.{arith}
-use mathlib.Core.Bool.{Bool, true, false, _&&_, and-false, false≢true}
+use mathlib.Core.Bool.{Bool, true, false, false≢true}
 use mathlib.Core.List.{List, [], _∷_, _++_, map}
 use mathlib.Core.Path.{_≡_, refl, sym, ap, _∙_}
 use lib.Dec.{ltb}
@@ -11,7 +11,7 @@ use borrow.Author.Tests.{eqb-true, le-ltb}
 use Rattle.sieve.specs.Bytes.{Bytes, ascii, same}
 use Rattle.sieve.specs.Characters.{characters}
 use Rattle.sieve.specs.Kinds.{empty, filled, atMost, formed}
-use Rattle.sieve.specs.Rules.{Rule, When, line, noText, isEmpty, is, has, always}
+use Rattle.sieve.specs.Rules.{Rule, When, line, noText, isEmpty, is, has, always, never}
 use Rattle.sieve.specs.Verdict.{aboutLines, first}
 use Rattle.sieve.proofs.Bounds.{same-is}
 use Rattle.sieve.proofs.Findings.{found-none, each-none}
@@ -23,7 +23,7 @@ use Rattle.swiss.specs.Swiss.{isCombined, address}
 use Rattle.swiss.proofs.Editions.{not-combined}
 use Rattle.findings.specs.Findings.{finds}
 use Rattle.findings.proofs.Looking.{numbered, found-nothing}
-use Rattle.swiss_address.specs.Addresses.{absentIf, addressee, locality, addressLines, countryAlone, emptyFrom, vacant}
+use Rattle.swiss_address.specs.Addresses.{addressee, locality, addressLines, countryAlone, emptyFrom, vacant}
 
 -- a line with no text is not too long
 short : (l : Bytes) (most : ℕ) → noText l ≡ true → ltb most (characters l) ≡ false
@@ -99,49 +99,55 @@ module _ (ls : List Bytes) where
 
     module _ (absent : When) where
       -- whether it is absent decides it
-      by-absence : (b : Bool) → absent ls ≡ b → finds (address V24 n (λ (ls : List Bytes). b)) ls ≡ finds (address V24 n absent) ls
+      pub by-absence : (e : Edition) (b : Bool) → absent ls ≡ b → finds (address e n (λ (ls : List Bytes). b)) ls ≡ finds (address e n absent) ls
       unfolding finds
-      by-absence b a = rw a
+      by-absence e b a = rw a
 
-      pub there : absent ls ≡ false → finds (addressee n ++ locality n) ls ≡ finds (address V24 n absent) ls
+    -- of type S, or absent
+    pub there : finds (addressee n ++ locality n) ls ≡ finds (address V24 n never) ls
+    unfolding finds first
+    there = refl
+
+    gone-in-24 : isEmpty n ls ≡ true → finds (vacant n) ls ≡ finds (address V24 n (isEmpty n)) ls
+    gone-in-24 z = as-vacant z ∙ as-asked z ∙ by-absence (isEmpty n) V24 true z
+
+    module _ (e : Edition) where
+      -- where it is not of type K, the editions ask the same
+      pub alike : (absent : When) → isCombined e n ls ≡ false → finds (address V24 n absent) ls ≡ finds (address e n absent) ls
       unfolding finds first
-      there a = by-absence false a
+      alike absent = by-cases e
+        where
+          by-cases : (e : Edition) → isCombined e n ls ≡ false → finds (address V24 n absent) ls ≡ finds (address e n absent) ls
+          by-cases V22 k = rw k
+          by-cases V24 k = refl
 
-      pub gone : absent ls ≡ true → isEmpty n ls ≡ true → finds (vacant n) ls ≡ finds (address V24 n absent) ls
-      gone a z = as-vacant z ∙ as-asked z ∙ by-absence true a
+      -- what 2.4 takes is not of type K
+      pub not-of-K : finds (address V24 n never) ls .number ≡ 0 → isCombined e n ls ≡ false
+      unfolding numbered
+      not-of-K h = by-cases e (not-combined (line n ls) (found-none _ _ (each-none (map (aboutLines ls) (address V24 n never)) (found-nothing ls (address V24 n never) refl h) 1)))
+        where
+          by-cases : (e : Edition) → is n combined ls ≡ false → isCombined e n ls ≡ false
+          by-cases V22 k = k
+          by-cases V24 k = refl
 
-      module _ (e : Edition) where
-        -- where it is not of type K, the editions ask the same
-        pub alike : isCombined e n ls ≡ false → finds (address V24 n absent) ls ≡ finds (address e n absent) ls
-        unfolding finds first
-        alike = by-cases e
-          where
-            by-cases : (e : Edition) → isCombined e n ls ≡ false → finds (address V24 n absent) ls ≡ finds (address e n absent) ls
-            by-cases V22 k = rw k
-            by-cases V24 k = refl
+      -- the type K is no empty line
+      filled-by-K : isCombined e n ls ≡ true → isEmpty n ls ≡ false
+      filled-by-K = by-cases e
+        where
+          by-cases : (e : Edition) → isCombined e n ls ≡ true → isEmpty n ls ≡ false
+          by-cases V22 k = ap noText (same-is (line n ls) (ascii combined) k)
+          by-cases V24 k = absurd (false≢true k)
 
-        -- what 2.4 takes is not of type K
-        pub not-of-K : finds (address V24 n absent) ls .number ≡ 0 → isCombined e n ls ≡ false
-        unfolding numbered
-        not-of-K h = by-cases e (not-combined (line n ls) (found-none _ _ (each-none (map (aboutLines ls) (address V24 n absent)) (found-nothing ls (address V24 n absent) refl h) 1)))
-          where
-            by-cases : (e : Edition) → is n combined ls ≡ false → isCombined e n ls ≡ false
-            by-cases V22 k = k
-            by-cases V24 k = refl
+      pub gone : isEmpty n ls ≡ true → finds (vacant n) ls ≡ finds (address e n (isEmpty n)) ls
+      gone z = gone-in-24 z ∙ alike (isEmpty n) (not-K (isCombined e n ls) refl)
+        where
+          not-K : (b : Bool) → isCombined e n ls ≡ b → isCombined e n ls ≡ false
+          not-K true k = absurd (false≢true (sym (filled-by-K k) ∙ z))
+          not-K false k = k
 
-        -- the type K is no empty line
-        filled-by-K : isCombined e n ls ≡ true → isEmpty n ls ≡ false
-        filled-by-K = by-cases e
-          where
-            by-cases : (e : Edition) → isCombined e n ls ≡ true → isEmpty n ls ≡ false
-            by-cases V22 k = ap noText (same-is (line n ls) (ascii combined) k)
-            by-cases V24 k = absurd (false≢true k)
+      combined-asked : isCombined e n ls ≡ true → finds (addressLines n ++ told) ls ≡ finds (address e n never) ls
+      unfolding finds first
+      combined-asked k = let full = filled-by-K k in rw (k, full)
 
-        combined-asked : absent ls ≡ false → isCombined e n ls ≡ true → finds (addressLines n ++ told) ls ≡ finds (address e n absent) ls
-        unfolding finds first
-        combined-asked a k = let full = filled-by-K k in rw (a, k, full)
-
-    pub combined-there : (optional : Bool) (e : Edition) → isCombined e n ls ≡ true → finds (addressLines n ++ countryAlone n) ls ≡ finds (address e n (absentIf optional n)) ls
-    combined-there optional e k =
-        let here : absentIf optional n ls ≡ false = ap (λ (b : Bool). optional && b) (filled-by-K (absentIf optional n) e k) ∙ and-false optional in
-        same-behind (addressLines n) (countryAlone n) told as-told ∙ combined-asked (absentIf optional n) e here k
+      pub combined-there : isCombined e n ls ≡ true → finds (addressLines n ++ countryAlone n) ls ≡ finds (address e n never) ls
+      combined-there k = same-behind (addressLines n) (countryAlone n) told as-told ∙ combined-asked k

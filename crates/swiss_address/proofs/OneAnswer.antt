@@ -11,3 +11,6 @@ one-vacant κs a x y v w h k = (h ∙ sym k, refl)
 
 pub one-address : OneAnswer fn.address.ended fn.address.Reads.Learnt
 one-address κs a x y v w h k = (h ∙ sym k, refl)
+
+pub one-address-if-any : OneAnswer fn.address_if_any.ended fn.address_if_any.Reads.Learnt
+one-address-if-any κs a x y v w h k = (h ∙ sym k, refl)

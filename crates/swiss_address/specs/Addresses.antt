@@ -1,4 +1,4 @@
--- What is found in a text; seven lines from line n on, an address that may be absent, one that is there, of type S or K, and one that is not. Assumes nothing.
+-- What is found in a text; seven lines from line n on, an address that is there, of type S or K, and one that is not. Assumes nothing.
 use Prim.Native.Nat.{ℕ, zero, suc, _+_, _≤_}
 use mathlib.Core.Bool.{Bool, _&&_}
 use mathlib.Core.List.{List, [], _∷_}
@@ -8,7 +8,7 @@ use lib.Dec.{ltb}
 use Rattle.sieve.specs.Bytes.{Bytes}
 use Rattle.sieve.specs.Characters.{characters}
 use Rattle.sieve.specs.Kinds.{empty, filled, atMost, formed}
-use Rattle.sieve.specs.Rules.{Rule, When, noText, isEmpty, is, has, always}
+use Rattle.sieve.specs.Rules.{Rule, noText, is, has, always}
 use Rattle.swiss.specs.Forms.{country}
 use Rattle.swiss.specs.Limits.{nameMost, streetMost, houseNumberMost, addressLineMost, postcodeMost, townMost, structured}
 use Rattle.findings.specs.declared.Finding.{Finding}
@@ -22,10 +22,6 @@ textFound l n when most = thenRule (thenRule (asFinding none) (when && noText l)
 -- the places are those of a payload's lines, and there is room for seven from line n on
 abbrev pub SevenFrom : Bytes → List ℕ → ℕ → Type 0
 SevenFrom p places n = (places ≡ listed p) × (1 ≤ n) × (n ≤ 28)
-
--- an address that may be absent is, where its first line is empty
-abbrev pub absentIf : Bool → ℕ → When
-absentIf optional n ls = optional && isEmpty n ls
 
 -- an address that is there, from line n on: its first four lines, and the other three
 abbrev pub addressee : ℕ → List Rule

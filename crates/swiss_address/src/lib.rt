@@ -13,10 +13,10 @@ use swiss::Edition;
 ghost use mathlib.Core.List.{_++_};
 ghost use mathlib.Core.Path.{_≡_};
 ghost use Rattle.sieve.specs.Lines.{cut, linesOf};
-ghost use Rattle.swiss.specs.declared.Edition.the-variants.{V24};
+ghost use Rattle.sieve.specs.Rules.{isEmpty, never};
 ghost use Rattle.swiss.specs.Swiss.{address};
 ghost use Rattle.findings.specs.Findings.{finds};
-ghost use Rattle.swiss_address.specs.Addresses.{textFound, SevenFrom, absentIf, addressee, locality, addressLines, countryAlone, vacant};
+ghost use Rattle.swiss_address.specs.Addresses.{textFound, SevenFrom, addressee, locality, addressLines, countryAlone, vacant};
 
 // A line of at most so many characters, which is not empty when that is asked: a name, a town, a procedure.
 pub fn text(l: &[u8], n: usize, when: bool, most: usize) -> Finding
@@ -176,15 +176,11 @@ pub fn vacant(payload: &[u8], places: &[u16; WALK_NUMBERS], n: usize) -> Finding
     KEPT
 }
 
-// The seven lines of an address as edition 2.4 has them, of type S, from line n on.
-fn structured(payload: &[u8], places: &[u16; WALK_NUMBERS], n: usize, optional: bool) -> Finding
+// The seven lines of an address of type S, from line n on.
+fn structured(payload: &[u8], places: &[u16; WALK_NUMBERS], n: usize) -> Finding
     requires { ⌜ SevenFrom (now payload) (now places) n ⌝ }
-    ensures { λ r. ⌜ r ≡ finds (address V24 n (absentIf optional n)) (linesOf (cut (now (payload .entry)))) ⌝ }
+    ensures { λ r. ⌜ r ≡ finds (addressee n ++ locality n) (linesOf (cut (now (payload .entry)))) ⌝ }
 {
-    let kind = line(payload, places, n);
-    if optional & (kind.len() == 0) {
-        return vacant(payload, places, n);
-    }
     let f = addressee(payload, places, n);
     if f.number != 0 {
         return f;
@@ -192,18 +188,13 @@ fn structured(payload: &[u8], places: &[u16; WALK_NUMBERS], n: usize, optional: 
     locality(payload, places, n)
 }
 
-// The seven lines of an address, from line n on. Most are of type S: K is asked for only where S's rules are broken.
-pub fn address(
-    payload: &[u8],
-    places: &[u16; WALK_NUMBERS],
-    n: usize,
-    optional: bool,
-    edition: Edition,
-) -> Finding
+// The seven lines of an address that must be there, from line n on. Most are of type S: K is asked for only where S's
+// rules are broken.
+pub fn address(payload: &[u8], places: &[u16; WALK_NUMBERS], n: usize, edition: Edition) -> Finding
     requires { ⌜ SevenFrom (now payload) (now places) n ⌝ }
-    ensures { λ r. ⌜ r ≡ finds (address edition n (absentIf optional n)) (linesOf (cut (now (payload .entry)))) ⌝ }
+    ensures { λ r. ⌜ r ≡ finds (address edition n never) (linesOf (cut (now (payload .entry)))) ⌝ }
 {
-    let f = structured(payload, places, n, optional);
+    let f = structured(payload, places, n);
     if f.number == 0 {
         return f;
     }
@@ -212,4 +203,21 @@ pub fn address(
         return combined(payload, places, n);
     }
     f
+}
+
+// The seven lines of an address that may be absent: it is where its first line is empty, and then all are.
+pub fn address_if_any(
+    payload: &[u8],
+    places: &[u16; WALK_NUMBERS],
+    n: usize,
+    edition: Edition,
+) -> Finding
+    requires { ⌜ SevenFrom (now payload) (now places) n ⌝ }
+    ensures { λ r. ⌜ r ≡ finds (address edition n (isEmpty n)) (linesOf (cut (now (payload .entry)))) ⌝ }
+{
+    let kind = line(payload, places, n);
+    if kind.len() == 0 {
+        return vacant(payload, places, n);
+    }
+    address(payload, places, n, edition)
 }

@@ -1,3 +1,4 @@
 pub mod Digits
+pub mod Iids
 pub mod Letters
 pub mod OneAnswer

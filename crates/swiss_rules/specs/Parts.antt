@@ -1,14 +1,17 @@
--- The list of rules of an edition, in three parts; what is found in a line with a number; a reference by its type. Assumes nothing.
+-- The list of rules of an edition, in three parts; what is found in a line with a number; an account that is one; a reference by its type. Assumes nothing.
 use Prim.Native.Nat.{ℕ}
-use mathlib.Core.Bool.{Bool, _&&_, not}
+use mathlib.Core.Bool.{Bool, true, _&&_, not}
 use mathlib.Core.List.{List, [], _∷_, flatten}
 use mathlib.Core.Option.{none}
+use mathlib.Core.Path.{_≡_}
 use denote.Ref.{RefT, now}
 use denote.Triple.Both.{Both}
 use Rattle.sieve.specs.Bytes.{Bytes}
 use Rattle.sieve.specs.Kinds.{filled, formed, checked}
+use Rattle.sieve.specs.Lines.{cut, linesOf}
 use Rattle.sieve.specs.Rules.{Rule, noText, isEmpty, has, always, never}
 use Rattle.swiss.specs.declared.Edition.{Edition}
+use Rattle.swiss.specs.Forms.{iban}
 use Rattle.swiss.specs.Swiss.{header, account, address, reserved, payment, reference, information, procedures, pairing, together}
 use Rattle.findings.specs.declared.Finding.{Finding}
 use Rattle.findings.specs.Findings.{asFinding, thenRule}
@@ -16,6 +19,10 @@ use Rattle.findings.specs.Findings.{asFinding, thenRule}
 -- what is found in a line that must be filled, of its form and with right check digits
 abbrev pub numberFound : Bytes → ℕ → Bool → Bool → Finding
 numberFound l n form check = thenRule (thenRule (thenRule (asFinding none) (noText l) 8 n) (not (noText l) && not form) 10 n) (not check) 11 n
+
+-- line 4 of a payload is an IBAN
+abbrev pub HasAccount : Bytes → Type 0
+HasAccount p = has 4 iban (linesOf (cut p)) ≡ true
 
 -- the reference on line 29, of a form and with check digits
 abbrev pub referenceOf : (Bytes → Bool) → (Bytes → Bool) → List Rule

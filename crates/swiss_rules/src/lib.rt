@@ -17,18 +17,21 @@ use runs::same;
 use sieve::WALK_NUMBERS;
 use swiss::Edition;
 use swiss_address::address;
+use swiss_address::address_if_any;
 use swiss_address::text;
 use swiss_address::vacant;
+ghost use mathlib.Core.Bool.{true};
 ghost use mathlib.Core.List.{[], _∷_};
 ghost use mathlib.Core.Path.{_≡_};
 ghost use Rattle.sieve.specs.Lines.{cut, linesOf};
 ghost use Rattle.sieve.specs.Mod97.{checks97};
 ghost use Rattle.sieve.specs.Mod10.{checks10};
-ghost use Rattle.swiss.specs.Forms.{qrr, scor};
-ghost use Rattle.swiss.specs.Swiss.{header, account, payment, reference, information, paired, pairing, together, rules};
+ghost use Rattle.swiss.specs.Forms.{iban, qrr, scor};
+ghost use Rattle.swiss.specs.Swiss.{header, account, payment, reference, information, procedures, paired};
+ghost use Rattle.swiss.specs.Swiss.{pairing, together, rules};
 ghost use Rattle.findings.specs.Findings.{finds, from};
 ghost use Rattle.places.specs.Listed.{listed, Counted};
-ghost use Rattle.swiss_rules.specs.Parts.{numberFound, referenceOf, informationLines, front, middle, back};
+ghost use Rattle.swiss_rules.specs.Parts.{numberFound, HasAccount, referenceOf, informationLines, front, middle, back};
 
 // Lines 1 to 3.
 pub fn header(kind: &[u8], version: &[u8], coding: &[u8]) -> Finding
@@ -136,6 +139,7 @@ fn information(message: &[u8], trailer: &[u8], billing: &[u8]) -> Finding
 
 // QRR stands exactly with a QR-IBAN, and only with CHF where the edition does not permit EUR.
 fn paired(account: &[u8], currency: &[u8], kind: &[u8], edition: Edition) -> bool
+    requires { ⌜ iban (now account) ≡ true ⌝ }
     ensures { λ r. ⌜ r ≡ paired edition (now (account .entry)) (now (currency .entry)) (now (kind .entry)) ⌝ }
 {
     let qr = swiss_forms::qr_iban(account);
@@ -146,9 +150,9 @@ fn paired(account: &[u8], currency: &[u8], kind: &[u8], edition: Edition) -> boo
     }
 }
 
-// Lines that go together.
+// Lines that go together, of a bill whose account is an IBAN.
 fn together(payload: &[u8], places: &[u16; WALK_NUMBERS], edition: Edition) -> Finding
-    requires { ⌜ now places ≡ listed (now payload) ⌝ }
+    requires { ⌜ (now places ≡ listed (now payload)) × HasAccount (now payload) ⌝ }
     ensures { λ r. ⌜ r ≡ finds (pairing edition ∷ together ∷ []) (linesOf (cut (now (payload .entry)))) ⌝ }
 {
     let pair = paired(
@@ -184,7 +188,7 @@ fn front(payload: &[u8], places: &[u16; WALK_NUMBERS], edition: Edition) -> Find
     if f.number != 0 {
         return f;
     }
-    address(payload, places, 5, false, edition)
+    address(payload, places, 5, edition)
 }
 
 // Lines 12 to 27.
@@ -200,12 +204,37 @@ fn middle(payload: &[u8], places: &[u16; WALK_NUMBERS], edition: Edition) -> Fin
     if f.number != 0 {
         return f;
     }
-    address(payload, places, 21, true, edition)
+    address_if_any(payload, places, 21, edition)
 }
 
-// Lines 28 to 34, of a bill of so many lines, and those that go together.
-fn back(payload: &[u8], places: &[u16; WALK_NUMBERS], count: usize, edition: Edition) -> Finding
+// Lines 33 and 34, of a bill of so many lines. Most have neither.
+fn procedures(payload: &[u8], places: &[u16; WALK_NUMBERS], count: usize) -> Finding
     requires { ⌜ Counted (now payload) (now places) count ⌝ }
+    ensures { λ r. ⌜ r ≡ finds procedures (linesOf (cut (now (payload .entry)))) ⌝ }
+{
+    if count < 33 {
+        return KEPT;
+    }
+    let f = text(
+        line(payload, places, 33),
+        33,
+        count == 33,
+        Edition::PROCEDURE_MOST,
+    );
+    if f.number != 0 {
+        return f;
+    }
+    text(
+        line(payload, places, 34),
+        34,
+        count == 34,
+        Edition::PROCEDURE_MOST,
+    )
+}
+
+// Lines 28 to 34, of a bill of so many lines whose account is an IBAN, and those that go together.
+fn back(payload: &[u8], places: &[u16; WALK_NUMBERS], count: usize, edition: Edition) -> Finding
+    requires { ⌜ Counted (now payload) (now places) count × HasAccount (now payload) ⌝ }
     ensures { λ r. ⌜ r ≡ finds (back edition) (linesOf (cut (now (payload .entry)))) ⌝ }
 {
     let f = reference(line(payload, places, 28), line(payload, places, 29));
@@ -220,21 +249,7 @@ fn back(payload: &[u8], places: &[u16; WALK_NUMBERS], count: usize, edition: Edi
     if f.number != 0 {
         return f;
     }
-    let f = text(
-        line(payload, places, 33),
-        33,
-        count == 33,
-        Edition::PROCEDURE_MOST,
-    );
-    if f.number != 0 {
-        return f;
-    }
-    let f = text(
-        line(payload, places, 34),
-        34,
-        count == 34,
-        Edition::PROCEDURE_MOST,
-    );
+    let f = procedures(payload, places, count);
     if f.number != 0 {
         return f;
     }

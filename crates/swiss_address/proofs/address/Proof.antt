@@ -4,20 +4,16 @@ use mathlib.Core.List.{List}
 use mathlib.Core.Path.{_≡_, sym, ap, _∙_}
 use Rattle.sieve.specs.Bytes.{Bytes}
 use Rattle.sieve.specs.Lines.{cut, linesOf}
-use Rattle.sieve.specs.Rules.{When}
+use Rattle.sieve.specs.Rules.{never}
 use Rattle.swiss.specs.Swiss.{isCombined}
 use Rattle.findings.specs.declared.Finding.{Finding}
-use Rattle.swiss_address.specs.Addresses.{absentIf}
-use Rattle.swiss_address.proofs.Addresses.{alike, not-of-K, combined-there}
+use Rattle.swiss_address.proofs.Addresses.{there, alike, not-of-K, combined-there}
 use borrow.Author.Needs.{needs}
 use Rattle.swiss_address.proofs.address.Statement.{statement}
 use Rattle.swiss_address.proofs.address.Tie as tie
 
 abbrev ls : tie.Start → List Bytes
 ls c = linesOf (cut (c .args .payload .now))
-
-abbrev absent : tie.Start → When
-absent c = absentIf (c .args .optional) (c .args .n)
 
 -- where the type is tested, from behind its tests
 abbrev not-of-S : tie.After-same → tie.Else1
@@ -39,8 +35,8 @@ structured-requires c κs = search needs
 returns : tie.Need-returns
 returns c =
     let s = c .before .before .before .before in
-    let found = c .before .before .structured .ensures in
-    found ∙ alike (ls s) (s .args .n) (absent s) (s .args .edition) (not-of-K (ls s) (s .args .n) (absent s) (s .args .edition) (sym (ap (λ (f : Finding). f .number) found) ∙ c .if1 .taken))
+    let found = c .before .before .structured .ensures ∙ there (ls s) (s .args .n) in
+    found ∙ alike (ls s) (s .args .n) (s .args .edition) never (not-of-K (ls s) (s .args .n) (s .args .edition) (sym (ap (λ (f : Finding). f .number) found) ∙ c .if1 .taken))
 
 line-requires : tie.Need-line-requires
 line-requires c κs = search needs
@@ -60,13 +56,13 @@ combined-requires c κs = search needs
 returns-2 : tie.Need-returns-2
 returns-2 c =
     let s = start (not-of-S (c .before .before)) in
-    c .combined .ensures ∙ combined-there (ls s) (s .args .n) (s .args .optional) (s .args .edition) (is-combined (c .before))
+    c .combined .ensures ∙ combined-there (ls s) (s .args .n) (s .args .edition) (is-combined (c .before))
 
 returns-3 : tie.Need-returns-3
 returns-3 c =
     let at-type = not-of-S (c .before) in
     let s = start at-type in
-    at-type .before .before .structured .ensures ∙ alike (ls s) (s .args .n) (absent s) (s .args .edition) (is-not-combined c)
+    at-type .before .before .structured .ensures ∙ there (ls s) (s .args .n) ∙ alike (ls s) (s .args .n) (s .args .edition) never (is-not-combined c)
 
 pub address-spec : {M : Type 1} → statement M
 address-spec =

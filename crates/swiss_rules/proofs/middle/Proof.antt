@@ -43,15 +43,15 @@ returns-2 c =
     group-passed _ (vacant 12) _ refl (at-payment .before .before .before .before .before .vacant .ensures) (at-payment .before .before .before .if1 .left)
     (group-stops _ payment _ (payment-is at-payment) (c .if2 .taken))
 
-address-requires : tie.Need-address-requires
-address-requires c κs = search needs
+address-if-any-requires : tie.Need-address-if-any-requires
+address-if-any-requires c κs = search needs
 
 returns-3 : tie.Need-returns-3
 unfolding middle flatten emptyFrom numbered
 returns-3 c =
     let at-payment = c .before .before .before in
     group-passed _ (vacant 12) _ refl (at-payment .before .before .before .before .before .vacant .ensures) (at-payment .before .before .before .if1 .left)
-    (group-passed _ payment (address (start at-payment .args .edition) 21 (isEmpty 21)) refl (payment-is at-payment) (c .before .if2 .left) (c .address .ensures))
+    (group-passed _ payment (address (start at-payment .args .edition) 21 (isEmpty 21)) refl (payment-is at-payment) (c .before .if2 .left) (c .address-if-any .ensures))
 
 pub middle-spec : {M : Type 1} → statement M
 middle-spec =
@@ -63,5 +63,5 @@ middle-spec =
     line-requires-2
     payment-requires
     returns-2
-    address-requires
+    address-if-any-requires
     returns-3)
