@@ -74,7 +74,9 @@ def trace(program, words, data):
 
 def stepped(command, file, marked):
     """By ptrace: the program stops after each instruction, and is waited for each time. What stands before
-    the first mark and behind the second runs on its own."""
+    the first mark and behind the second runs on its own. Both stay on one processor: they take turns, and
+    to wake another takes longer than a step."""
+    os.sched_setaffinity(0, {min(os.sched_getaffinity(0))})
     c_library = ctypes.CDLL(None, use_errno=True)
     c_library.ptrace.argtypes = 4 * [ctypes.c_long]
     child = os.fork()
