@@ -1,19 +1,20 @@
 -- The contract of each public function leaves one answer. Assumes nothing.
 use mathlib.Core.Path.{refl, sym, ◌∙◌}
 use Rattle.sieve.specs.OneAnswer.{OneAnswer}
+use Rattle.giro_forms.specs.contracts as contract
 use Rattle.giro_forms.proofs as fn
 
-pub one_unread_coding : OneAnswer fn.unread_coding.ended fn.unread_coding.Reads.Learnt
+pub one_unread_coding : OneAnswer contract.unread_coding.ended fn.unread_coding.Reads.Learnt
 one_unread_coding κs a x y v w h k = (h ∙ sym k, refl)
 
-pub one_bic : OneAnswer fn.bic.ended fn.bic.Reads.Learnt
+pub one_bic : OneAnswer contract.bic.ended fn.bic.Reads.Learnt
 one_bic κs a x y v w h k = (h ∙ sym k, refl)
 
-pub one_iban : OneAnswer fn.iban.ended fn.iban.Reads.Learnt
+pub one_iban : OneAnswer contract.iban.ended fn.iban.Reads.Learnt
 one_iban κs a x y v w h k = (h ∙ sym k, refl)
 
-pub one_amount : OneAnswer fn.amount.ended fn.amount.Reads.Learnt
+pub one_amount : OneAnswer contract.amount.ended fn.amount.Reads.Learnt
 one_amount κs a x y v w h k = (h ∙ sym k, refl)
 
-pub one_basic : OneAnswer fn.basic.ended fn.basic.Reads.Learnt
+pub one_basic : OneAnswer contract.basic.ended fn.basic.Reads.Learnt
 one_basic κs a x y v w h k = (h ∙ sym k, refl)

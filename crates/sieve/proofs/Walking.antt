@@ -34,7 +34,7 @@ walk_passed {w} {s} (one_passed (x ∷ c) a n g e r) i =
     rw (append_assoc c a s, e ∙ sym g, walk)
     (rw (append_assoc c a s) (over w c (a ++ s) (suc i)) ∙ walk_passed r (suc i + length c) ∙ ap (walk w 0 s) (omega (arith, length-append c a)))
 
-passed_append : {w : Width} {s a b : Bytes} → Passed w (b ++ s) a → Passed w s b → Passed w s (a ++ b)
+passed_append : {w : Width} {s b a : Bytes} → Passed w (b ++ s) a → Passed w s b → Passed w s (a ++ b)
 passed_append none_passed q = q
 passed_append {w} {s} {b = b} (one_passed c a n g e p) q = rw (append_assoc c a b) (one_passed c (a ++ b) n g (rw (append_assoc a b s) e) (passed_append p q))
 
