@@ -1,6 +1,9 @@
 // Calls for C, all of edition 2.4 but the season, which tries both: the verdict on a payload and the place of a line as
 // one number each, the list of places, the account at a glance, the writer, numbers of our own, a pile of bills, a
 // season, SWIFT fields, a payload that comes in bits, and one that is mended.
+
+#![tactic(auto)]
+
 ghost use Rattle.std.specs.Prelude.{◌≡◌};
 ghost use Rattle.sieve.specs.Verdict.{verdict};
 ghost use Rattle.swiss.specs.Swiss.{swiss};

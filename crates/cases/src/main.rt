@@ -17,6 +17,9 @@
 //    characters cut, those replaced and 0, and one with all 320 bytes that were lent, zeros before.
 // P: how many bills there are, the places of four bills, and the buffer. Where it is done, a line with all 8 numbers that
 //    were lent, zeros before, and no other.
+
+#![tactic(auto)]
+
 ghost use Rattle.std.specs.Prelude.{◌≤◌, ◌<◌};
 
 use libc::{STDIN_FILENO, STDOUT_FILENO};

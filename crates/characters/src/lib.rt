@@ -1,5 +1,8 @@
 // Characters of any bytes: runs of those that have one byte, marks of sixteen bytes at once, and how wide a character of a
 // set is.
+
+#![tactic(auto)]
+
 ghost use Rattle.std.specs.Prelude.{◌≡◌, ◌*◌, ◌+◌, ◌≤◌, ◌<◌, drop, get_or, length, take};
 ghost use Rattle.std.specs.Int.Count.{count_trailing_zeros};
 ghost use Rattle.sieve.specs.Iso8859.{iso_byte};

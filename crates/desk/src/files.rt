@@ -19,7 +19,7 @@ const WAITING_BYTES: usize = 48000;
 const STEP: usize = 64;
 
 // What was counted, how far the buffer is laid, and whether a write failed. A count of arguments wraps on no machine.
-#[derive(Drop)]
+#[derive(Clone, Copy)]
 struct Tally {
     accepted: u64,
     refused: u64,

@@ -24,7 +24,7 @@ pub fn argument(i: usize, buffer: &mut [u8]) -> usize
 
 // What was read: so many bytes, and whether no read failed. Where one did, no byte counts, since a part of the input could
 // pass for a bill.
-#[derive(Drop)]
+#[derive(Clone, Copy)]
 pub struct Got {
     pub bytes: usize,
     pub whole: bool,

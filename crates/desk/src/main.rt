@@ -1,6 +1,9 @@
 // What a shell asks of the library, by a command and its arguments. Answers go to standard output, and one line about how
 // it went to descriptor 3: last, and only where all before it was written whole. A caller that reads no line there knows
 // that the output is not whole.
+
+#![tactic(auto)]
+
 mod files;
 mod input;
 mod line;

@@ -1,5 +1,8 @@
 // What a rule about a line finds. One function for each kind of rule: what was found before, else this rule's number and
 // the line, if the line breaks it.
+
+#![tactic(auto)]
+
 ghost use Rattle.std.specs.Prelude.{◌&&◌, not, ◌≡◌, ltb};
 ghost use Rattle.sieve.specs.Bytes.{same};
 ghost use Rattle.sieve.specs.Characters.{characters};
@@ -11,7 +14,7 @@ use sieve::Fault;
 
 // What the rules that were looked at so far find: the number and the line of the first that is broken, or twice 0. It is
 // small, since it goes from rule to rule; the fault is made once, of what is found in the end.
-#[derive(Drop)]
+#[derive(Clone, Copy)]
 pub struct Finding {
     pub number: usize,
     pub line: usize,

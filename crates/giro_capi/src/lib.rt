@@ -1,5 +1,8 @@
 // Calls for C of the girocode, as `capi` has them of the Swiss bill. They are a library of their own: a function that both
 // layouts call is not inlined, and the Swiss calls would take a tenth more.
+
+#![tactic(auto)]
+
 ghost use Rattle.std.specs.Prelude.{◌≡◌};
 ghost use Rattle.sieve.specs.Verdict.{verdict};
 ghost use Rattle.girocode.specs.Girocode.{girocode};

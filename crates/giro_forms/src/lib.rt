@@ -1,4 +1,7 @@
 // The forms that the lines of a girocode take.
+
+#![tactic(auto)]
+
 ghost use Rattle.std.specs.Prelude.{◌≡◌};
 ghost use Rattle.girocode.specs.Forms.{unread_coding, bic, iban, whole, fraction, with_fraction, amount, basic};
 

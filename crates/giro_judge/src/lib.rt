@@ -1,4 +1,7 @@
 // The verdict on a girocode, in code: rules 1 to 5 over the whole payload, then those about its lines.
+
+#![tactic(auto)]
+
 ghost use Rattle.std.specs.Prelude.{◌≡◌};
 ghost use Rattle.sieve.specs.Lines.{cut, lines_of};
 ghost use Rattle.sieve.specs.Paper.{paper};

@@ -1,4 +1,7 @@
 // Reads a girocode: the verdict, then room, then the places of its lines.
+
+#![tactic(auto)]
+
 ghost use Rattle.sieve.specs.Reading.{IsRead};
 ghost use Rattle.girocode.specs.Girocode.{girocode};
 

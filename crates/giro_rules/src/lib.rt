@@ -1,5 +1,8 @@
 // The rules about a girocode's lines, group by group of lines, in the order of the sieve. Once a rule is broken, later
 // groups are left out.
+
+#![tactic(auto)]
+
 ghost use Rattle.std.specs.Prelude.{cond, ◌≡◌, ltb, length};
 ghost use Rattle.sieve.specs.Characters.{characters};
 ghost use Rattle.sieve.specs.Lines.{cut, lines_of};

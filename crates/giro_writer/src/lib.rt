@@ -1,4 +1,7 @@
 // Writes a girocode: its lines, found in a text by a list of places, joined by a break.
+
+#![tactic(auto)]
+
 ghost use Rattle.girocode.specs.Girocode.{girocode};
 ghost use Rattle.joining.specs.Stages.{IsWrittenTo};
 

@@ -1,2 +1,5 @@
 // The girocode.
+
+#![tactic(auto)]
+
 pub mod limits;

@@ -1,4 +1,7 @@
 // Whose account a payload names, at a glance: by its first 37 bytes, and by whether there are more.
+
+#![tactic(auto)]
+
 ghost use Rattle.std.specs.Prelude.{◌≡◌, ◌+◌, ◌≤◌, length, drop};
 ghost use Rattle.glance.specs.FixedLines.{gone_past, fourth_start};
 ghost use Rattle.glance.specs.Glance.{look, glance, account_as};
@@ -14,7 +17,7 @@ const LOOKED: usize = 37;
 const FEWEST: usize = 32;
 
 // What a glance tells of the account.
-#[derive(Drop)]
+#[derive(Clone, Copy)]
 pub enum Account {
     Unknown,
     // where the IBAN stands: its start and its length in bytes

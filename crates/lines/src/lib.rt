@@ -1,4 +1,7 @@
 // Lines and breaks of any bytes: how wide a break is, the line finder, and whether all breaks are alike.
+
+#![tactic(auto)]
+
 ghost use Rattle.std.specs.Prelude.{◌≡◌, ◌<◌, eqb, length, drop, get_or};
 ghost use Rattle.sieve.specs.Bytes.{first_such};
 ghost use Rattle.sieve.specs.Lines.{break_bytes, of_break};
@@ -44,7 +47,7 @@ fn of_break(x: u8) -> bool
 }
 
 // Where a line ends, and where the next one starts; both the same where it is the last.
-#[derive(Drop)]
+#[derive(Clone, Copy)]
 pub struct LineAt {
     pub end: usize,
     pub next: usize,
@@ -70,7 +73,7 @@ pub fn line_at(s: &[u8], from: usize) -> LineAt
 }
 
 // Where a line lies.
-#[derive(Drop)]
+#[derive(Clone, Copy)]
 pub struct Place {
     pub start: usize,
     pub bytes: usize,
@@ -102,7 +105,7 @@ pub fn line_place(s: &[u8], n: usize) -> Place
 }
 
 // Where a line holds CR or LF.
-#[derive(Drop)]
+#[derive(Clone, Copy)]
 pub enum Stray {
     Nowhere,
     At(usize),
@@ -135,7 +138,7 @@ pub fn break_length(k: Break) -> usize
 }
 
 // How some bytes are parted into lines.
-#[derive(Drop)]
+#[derive(Clone, Copy)]
 pub enum Parted {
     // all breaks are like the first: its kind (LF where there is none), and how many lines
     Alike(Break, usize),
@@ -144,7 +147,7 @@ pub enum Parted {
 }
 
 // The breaks that were passed: the width of the first, and the line that the first unlike it ends; 0 where there is none.
-#[derive(Drop)]
+#[derive(Clone, Copy)]
 struct BreaksPassed {
     first: usize,
     unlike: usize,

@@ -1,4 +1,7 @@
 // References and accounts of our own, made from their parts, with the check digits that are due.
+
+#![tactic(auto)]
+
 ghost use Rattle.std.specs.Prelude.{◌≡◌, ◌+◌, ◌≤◌, length};
 ghost use Rattle.making.specs.Made.{qrr_part, laid_at, with_pair_set, HasRoom, Parts, scor_part, iban_parts};
 ghost use Rattle.making.specs.Making.{IsQrrMade, IsPairLaid, IsPairMade, IsScorMade, IsIbanMade};

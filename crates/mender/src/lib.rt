@@ -1,5 +1,8 @@
 // Mends a payload that a mail program mangled: its breaks, spaces that end a line or stand within the account and the
 // reference, and empty last lines.
+
+#![tactic(auto)]
+
 ghost use Rattle.std.specs.Prelude.{◌≡◌, ◌+◌, ◌≤◌, length};
 ghost use Rattle.sieve.specs.Characters.{line_feeds};
 ghost use Rattle.mender.specs.Mending.{most_mended, mend_of, mend_by_steps, EndsByRoom, EndsByReader, IsMended};
@@ -18,7 +21,7 @@ const MOST: usize = 4096;
 const SHORT: usize = 2000;
 
 // What was counted on the way: breaks that were not LF, spaces taken, lines dropped.
-#[derive(Drop)]
+#[derive(Clone, Copy)]
 pub struct Repairs {
     pub breaks: usize,
     pub spaces: usize,
@@ -26,7 +29,7 @@ pub struct Repairs {
 }
 
 // What the mender answers.
-#[derive(Drop)]
+#[derive(Clone, Copy)]
 pub enum Mended {
     // how many bytes were written, and what was counted
     Length(usize, Repairs),
@@ -34,7 +37,7 @@ pub enum Mended {
 }
 
 // How far bytes are laid: to `at`, of which those from `solid` on are spaces, which stay only where their line goes on.
-#[derive(Drop)]
+#[derive(Clone, Copy)]
 struct Reach {
     at: usize,
     solid: usize,
@@ -42,7 +45,7 @@ struct Reach {
 }
 
 // How far bytes are laid, with what was counted: breaks that were not LF, and those of them that were CR LF.
-#[derive(Drop)]
+#[derive(Clone, Copy)]
 struct Tally {
     reach: Reach,
     breaks: usize,
@@ -50,7 +53,7 @@ struct Tally {
 }
 
 // What a sweep over a payload leaves: so many bytes and lines after steps 1 to 3, and what was counted.
-#[derive(Drop)]
+#[derive(Clone, Copy)]
 struct Swept {
     bytes: usize,
     lines: usize,

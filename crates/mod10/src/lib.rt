@@ -1,4 +1,7 @@
 // The check digit of a run of digits by modulo 10, recursive.
+
+#![tactic(auto)]
+
 ghost use Rattle.std.specs.Prelude.{true, ◌++◌, ◌≡◌, ◌+◌, ◌-◌, ◌%◌, ◌<◌, get_or};
 ghost use Rattle.sieve.specs.Bytes.{every};
 ghost use Rattle.sieve.specs.Letters.{digit};

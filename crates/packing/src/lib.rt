@@ -1,4 +1,7 @@
 // Answers as one number, for C. Every call packs in this one way.
+
+#![tactic(auto)]
+
 ghost use Rattle.std.specs.Prelude.{◌≡◌, ◌≤◌, ◌<◌, length};
 ghost use Rattle.sieve.specs.Paper.{paper_fault, paper, paper_written};
 ghost use Rattle.sieve.specs.Places.{walk_lines, walk_numbers};

@@ -1,4 +1,7 @@
 // A morning's pile: bills that lie in one buffer, each judged, and an entry for each.
+
+#![tactic(auto)]
+
 ghost use Rattle.std.specs.Prelude.{◌≡◌, ◌*◌, ◌≤◌, length};
 ghost use Rattle.sieve.specs.Bytes.{over};
 ghost use Rattle.sieve.specs.Paper.{paper};
@@ -13,7 +16,7 @@ use swiss_judge::judge_in;
 const MOST_BILLS: usize = 500;
 
 // What is answered of a pile: nothing is refused, or what is.
-#[derive(Drop)]
+#[derive(Clone, Copy)]
 pub enum Piled {
     Done,
     Refused(Fault),

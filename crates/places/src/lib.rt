@@ -1,4 +1,7 @@
 // The list of places that a walk fills: cleared, and each line, by it.
+
+#![tactic(auto)]
+
 ghost use Rattle.std.specs.Prelude.{◌≡◌, ◌≤◌, replicate};
 ghost use Rattle.sieve.specs.Places.{walk_lines, walk_numbers};
 ghost use Rattle.sieve.specs.Lines.{cut, lines_of};

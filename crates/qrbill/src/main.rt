@@ -1,4 +1,7 @@
 // Reads a payload from standard input and writes one line: what the reader answers.
+
+#![tactic(auto)]
+
 ghost use Rattle.std.specs.Prelude.{◌≤◌, length};
 
 use libc::{STDIN_FILENO, STDOUT_FILENO};

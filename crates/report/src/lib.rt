@@ -1,4 +1,7 @@
 // The line that the program writes of a payload: what the reader of its layout answers.
+
+#![tactic(auto)]
+
 ghost use Rattle.std.specs.Prelude.{◌++◌, ◌≡◌, ◌+◌, ◌≤◌, ◌<◌, length, take};
 ghost use Rattle.std.proofs.Math.Option.{get_or};
 ghost use Rattle.sieve.specs.Paper.{paper, paper_fault};

@@ -53,6 +53,10 @@ module _ (d l : Bytes) where
   pub copied : length l ≤ length d → {i : ℕ} {e : Bytes} → i ≡ length l → e ≡ take i l ++ drop i d → (i ≡ fitting d l) × (e ≡ over_fitting d l)
   copied h q is = (rw (room_for h) q, is ∙ rw (laid_in_lem h, q, take-length))
 
+  -- so where the library's copy has written to the front
+  pub written : length l ≤ length d → {e : Bytes} → e ≡ l → (length l ≡ fitting d l) × (e ++ drop (length l - 0) d ≡ over_fitting d l)
+  written h f = copied h refl (let whole : length l - 0 ≡ length l = omega arith in rw (f, whole, take-length))
+
   pub all_laid : length l ≤ length d → {i : ℕ} {e : Bytes} → length l ≤ i → Laying d l i e → (i ≡ fitting d l) × (e ≡ over_fitting d l)
   all_laid h k m = copied h (le_antisymm m.few k) m.is
 

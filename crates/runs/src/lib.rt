@@ -1,11 +1,12 @@
 // Runs of bytes: counting, comparing and copying them.
+
+#![tactic(auto)]
+
 ghost use Rattle.std.specs.Prelude.{◌≡◌, ◌+◌, ◌≤◌, ltb, length};
 ghost use Rattle.sieve.specs.Bytes.{same, every};
 ghost use Rattle.sieve.specs.Characters.{characters};
 ghost use Rattle.runs.specs.CharacterKinds.{of_kind};
 ghost use Rattle.runs.specs.Laid.{fitting, over_fitting};
-
-use bytes::copy;
 
 // The characters that begin in at most 255 bytes. Their number has 8 bits, so that the compiler counts 16 bytes at once.
 fn begun(s: &[u8]) -> u8
@@ -76,7 +77,7 @@ pub fn same(a: &[u8], b: &[u8]) -> bool
 }
 
 // A kind of byte.
-#[derive(Drop)]
+#[derive(Clone, Copy)]
 pub enum Kind {
     Digit,
     Capital,
@@ -126,7 +127,9 @@ pub fn lay(dest: &mut [u8], bytes: &[u8]) -> usize
     if dest.len() < bytes.len() {
         return 0;
     }
-    copy(bytes, dest)
+    let n = bytes.len();
+    dest[0..n].copy_from_slice(bytes);
+    n
 }
 
 // Copies numbers to the front of a list, and answers how many; none where they do not fit, and the list stays as it is.

@@ -1,4 +1,7 @@
 // A payload that comes in bits: they are kept as they arrive, and the reader is asked at the close.
+
+#![tactic(auto)]
+
 ghost use Rattle.std.specs.Prelude.{◌≡◌};
 ghost use Rattle.scanner.specs.Scanning.{fresh, held_in, handed_over, IsClosed};
 
@@ -30,7 +33,7 @@ pub fn hand_over(held: &mut [u8], length: usize, bit: &[u8]) -> usize
 }
 
 // What has arrived so far: its bytes, in the front of the room. A length over 997 notes that there were too many.
-#[derive(Drop)]
+#[derive(Clone, Copy)]
 pub struct Scan {
     pub bytes: [u8; Edition::MOST_BYTES],
     pub len: usize,

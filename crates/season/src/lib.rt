@@ -1,4 +1,7 @@
 // Last season again: a recorded pile tried under both editions.
+
+#![tactic(auto)]
+
 ghost use Rattle.std.specs.Prelude.{cond, ◌≡◌, ◌+◌, ◌<◌, get_or, length, set};
 ghost use Rattle.sieve.specs.Paper.{paper, paper_fault};
 ghost use Rattle.swiss.specs.Cents.{cents};
@@ -15,7 +18,7 @@ use swiss::Edition;
 use swiss_judge::judge_in;
 
 // What is answered of a season.
-#[derive(Drop)]
+#[derive(Clone, Copy)]
 pub enum Tried {
     // how many positions are listed, and the sums in cents, of CHF and of EUR
     Listed(usize, u64, u64),
@@ -23,7 +26,7 @@ pub enum Tried {
 }
 
 // What is told of one bill: whether the editions differ on it, and what it adds to each sum.
-#[derive(Drop)]
+#[derive(Clone, Copy)]
 struct Outcome {
     differs: bool,
     francs: u64,

@@ -1,5 +1,8 @@
 // The list that is shown of a bill: of each line where it lies and how many characters it has; filled for a reader, and
 // held against a writer's text.
+
+#![tactic(auto)]
+
 ghost use Rattle.std.specs.Prelude.{◌≡◌, ◌*◌, ◌≤◌, length, drop};
 ghost use Rattle.sieve.specs.Characters.{characters};
 ghost use Rattle.sieve.specs.Places.{walk_lines, walk_numbers, places_in};
@@ -91,7 +94,7 @@ pub fn places_in(list: &[u16], places: &mut [u16])
 }
 
 // The first line, counted from 1, of which a list says another number of characters than it has.
-#[derive(Drop)]
+#[derive(Clone, Copy)]
 pub enum Wrong {
     Nowhere,
     At(usize),

@@ -1,4 +1,7 @@
 // SWIFT's fields 59a, 32B and 70 for a bill that an edition accepts.
+
+#![tactic(auto)]
+
 ghost use Rattle.std.specs.Prelude.{◌≡◌, true, not, [], ◌++◌, ◌+◌, ◌≤◌, ◌<◌, length};
 ghost use Rattle.sieve.specs.Bytes.{within};
 ghost use Rattle.sieve.specs.Lines.{cut, lines_of};
@@ -20,7 +23,7 @@ use swiss::Edition;
 use swiss_judge::judge_in;
 
 // What is told of the fields that were laid.
-#[derive(Drop)]
+#[derive(Clone, Copy)]
 pub struct Counts {
     pub bytes: usize,
     // lines of each field
@@ -33,7 +36,7 @@ pub struct Counts {
 }
 
 // What is answered: the fields were laid, or nothing was.
-#[derive(Drop)]
+#[derive(Clone, Copy)]
 pub enum Mapped {
     Laid(Counts),
     Refused(Fault),
@@ -61,7 +64,7 @@ fn begins(x: u8) -> bool
 }
 
 // A line while it is filled: its bytes, how many they are, and how many of them stand for another character.
-#[derive(Drop)]
+#[derive(Clone, Copy)]
 struct Row {
     bytes: [u8; 35],
     length: usize,
@@ -69,7 +72,7 @@ struct Row {
 }
 
 // A row, and where in a text its filling stopped.
-#[derive(Drop)]
+#[derive(Clone, Copy)]
 struct Filled {
     row: Row,
     at: usize,
@@ -132,7 +135,7 @@ fn begun(row: Row) -> Row
 }
 
 // A line of field 59a or 32B while it is filled: its row, and how many characters did not find room in it.
-#[derive(Drop)]
+#[derive(Clone, Copy)]
 struct Line {
     row: Row,
     cut: usize,
@@ -164,7 +167,7 @@ fn add(line: Line, text: &[u8]) -> Line
 }
 
 // How far a page of lines is laid: its bytes, its lines, the characters that stand for others, and those that were cut.
-#[derive(Drop)]
+#[derive(Clone, Copy)]
 struct Page {
     at: usize,
     lines: usize,
@@ -264,7 +267,7 @@ fn amount_line(currency: &[u8], paid: &[u8]) -> Line
 }
 
 // Four rows of 35 characters, and where in the message their filling stopped.
-#[derive(Drop)]
+#[derive(Clone, Copy)]
 struct FourRows {
     rows: [Row; 4],
     at: usize,

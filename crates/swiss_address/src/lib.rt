@@ -1,5 +1,8 @@
 // The rules about the seven lines of an address, in the order of the sieve: of one that is there, of type S or K, and of
 // one that is absent, whose lines are empty. Each line is taken out of the payload by the walk's list.
+
+#![tactic(auto)]
+
 ghost use Rattle.std.specs.Prelude.{◌++◌, ◌≡◌};
 ghost use Rattle.sieve.specs.Lines.{cut, lines_of};
 ghost use Rattle.sieve.specs.Rules.{is_empty, never};

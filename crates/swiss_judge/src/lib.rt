@@ -1,4 +1,7 @@
 // The verdict on a payload, in code: rules 1 to 5 over the whole payload, then those about its lines.
+
+#![tactic(auto)]
+
 ghost use Rattle.std.specs.Prelude.{◌≡◌};
 ghost use Rattle.sieve.specs.Paper.{paper};
 ghost use Rattle.sieve.specs.Verdict.{verdict};

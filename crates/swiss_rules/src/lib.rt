@@ -1,5 +1,8 @@
 // The rules about a bill's lines, group by group of lines, in the order of the sieve. A group takes the lines that it is
 // about; those of seven lines are `swiss_address`'s. Once a rule is broken, later groups are left out.
+
+#![tactic(auto)]
+
 ghost use Rattle.std.specs.Prelude.{true, [], ◌∷◌, ◌≡◌};
 ghost use Rattle.sieve.specs.Lines.{cut, lines_of};
 ghost use Rattle.sieve.specs.Mod97.{checks97};

@@ -1,4 +1,7 @@
 // A viewer: it keeps hold of a payload, and hands out line after line.
+
+#![tactic(auto)]
+
 ghost use Rattle.std.specs.Prelude.{◌≡◌};
 ghost use Rattle.viewer.specs.View.{is_done, next_from, standing};
 ghost use Rattle.viewer.specs.Held.{IsBegun, IsOpened, IsLine, IsNext};
@@ -8,7 +11,7 @@ use sieve::Answer;
 use swiss_judge::verdict;
 
 // The payload, the place where the next line starts, and what the reader answers.
-#[derive(Drop)]
+#[derive(Clone, Copy)]
 pub struct Viewer<'a> {
     payload: &'a [u8],
     at: usize,
@@ -16,7 +19,7 @@ pub struct Viewer<'a> {
 }
 
 // What a viewer holds beside its payload when it is opened.
-#[derive(Drop)]
+#[derive(Clone, Copy)]
 struct Begun {
     at: usize,
     answer: Answer,

@@ -1,4 +1,7 @@
 // The walk over a payload: its characters, its breaks, and where its lines lie.
+
+#![tactic(auto)]
+
 ghost use Rattle.std.specs.Prelude.{◌≡◌, ◌≤◌, length};
 ghost use Rattle.sieve.specs.Places.{walk_numbers};
 ghost use Rattle.sieve.specs.Characters.{bad_place};
@@ -17,7 +20,7 @@ use sieve::{Break, Charset, WALK_LINES, WALK_NUMBERS};
 const GREATEST: usize = 65535;
 
 // What the walk over characters and breaks finds.
-#[derive(Drop)]
+#[derive(Clone, Copy)]
 pub enum Walked {
     Clean,
     // the line, and the byte's place
@@ -25,7 +28,7 @@ pub enum Walked {
 }
 
 // All that one walk tells, beside the list that it fills. Where a byte is bad, the lines are not told: one line.
-#[derive(Drop)]
+#[derive(Clone, Copy)]
 pub struct Told {
     pub walked: Walked,
     pub parted: Parted,
@@ -33,7 +36,7 @@ pub struct Told {
 
 // The lines that are behind the walk: the breaks that ended them, how many of these are CR LF, and where the next line
 // starts.
-#[derive(Drop)]
+#[derive(Clone, Copy)]
 struct Behind {
     feeds: usize,
     returns: usize,
@@ -41,14 +44,14 @@ struct Behind {
 }
 
 // Where the walk stands: the lines behind it, and the byte that it has come to.
-#[derive(Drop)]
+#[derive(Clone, Copy)]
 struct Standing {
     passed: Behind,
     at: usize,
 }
 
 // Where the walk stands among sixteen bytes: the lines behind it, and the marks of the bytes that are not.
-#[derive(Drop)]
+#[derive(Clone, Copy)]
 struct Ahead {
     passed: Behind,
     left: u32,

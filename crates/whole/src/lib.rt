@@ -1,4 +1,7 @@
 // Rules 1 to 5, over a whole payload, for every layout: its bytes, its characters, its breaks and its lines.
+
+#![tactic(auto)]
+
 ghost use Rattle.std.specs.Prelude.{◌≡◌, replicate};
 ghost use Rattle.sieve.specs.Places.{walk_numbers};
 ghost use Rattle.sieve.specs.Charsets.{of_set};

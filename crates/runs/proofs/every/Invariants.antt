@@ -1,0 +1,15 @@
+use Prim.Native.Nat.{◌-◌}
+use mathlib.Core.Bool.{◌&&◌, and-true}
+use mathlib.Core.Path.{◌≡◌, refl, sym, ◌∙◌}
+use borrow.Author.Rules.{rules}
+use lib.ListN.{length, drop, drop_of_length-le}
+use Rattle.sieve.specs.Bytes.{every}
+use Rattle.runs.specs.CharacterKinds.{of_kind}
+use Rattle.runs.proofs.ByteByByte.{asked}
+use Rattle.runs.proofs.every.Given as goal
+
+abbrev pub invariant-loop-i : goal.invariant-loop-i
+invariant-loop-i l = every (of_kind l.kind) l.s ≡ l.all && every (of_kind l.kind) (drop l.i l.s)
+
+abbrev pub decreases-loop-i : goal.decreases-loop-i
+decreases-loop-i l = length l.s - l.i
