@@ -1,0 +1,35 @@
+-- `lines::line_at` meets its contract. The invariant: the line that starts at `from` ends where one that started at `at` would. Assumes nothing.
+use Prim.Native.Nat.{ℕ, ◌+◌, ◌-◌}
+use native.Mathlib.Omega.{arith}
+use mathlib.Core.Logic.{⊎_elim}
+use mathlib.Core.Path.{◌≡◌, refl, sym, ◌∙◌, ap}
+use borrow.Author.Rules.{rules}
+use lib.ListN.{length, drop, length-drop}
+use Rattle.sieve.specs.Lines.{cut}
+use Rattle.sieve.specs.Characters.{break_width}
+use Rattle.lines.proofs.Fronts.{break_fits}
+use Rattle.lines.proofs.FirstLine.{no_break, goes_on, stops, ends}
+use Rattle.lines.proofs.line_at.Goals as goal
+
+pub overflow_add-next : goal.overflow_add-next
+overflow_add-next c =
+    let s = c.args.s.now in
+    omega (arith, break_fits (drop c.loop-at.at s), length-drop c.loop-at.at s)
+
+pub returns-then-b-ne0 : goal.returns-then-b-ne0
+returns-then-b-ne0 c =
+    let s = stops c.args.s.now c.loop-at.at c.loop-at-test.true (λ e. c.if-b-ne0.true (c.break_width-b.ensures ∙ e)) in
+    record { end = omega arith; next = ap (λ (n : ℕ). c.loop-at.at + n) c.break_width-b.ensures }
+
+pub loop-at-preserved : goal.loop-at-preserved
+loop-at-preserved c =
+    let s = c.args.s.now in
+    let i = c.loop-at.at in
+    let none : break_width (drop i s) ≡ 0 = ⊎_elim (λ w. sym w.1.ensures ∙ w.2.left) (λ w. no_break s i c.loop-at-test.true (sym c.of_break.ensures ∙ w.left)) c.if-of_break.branch in
+    omega (arith, goes_on s i c.loop-at-test.true none)
+
+pub returns : goal.returns
+returns c =
+    let l = c.loop in
+    let e = ends c.args.s.now l.at c.loop-at-test.false in
+    record { end = omega arith; next = omega arith }

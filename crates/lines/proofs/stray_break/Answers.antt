@@ -1,0 +1,26 @@
+-- `lines::stray_break` meets its contract. The invariant: the bytes that are left decide. Assumes nothing.
+use Prim.Native.Nat.{◌-◌}
+use mathlib.Core.Bool.{false}
+use mathlib.Core.Logic.{⊎_elim}
+use mathlib.Core.Path.{◌≡◌, refl, sym, ap, ◌∙◌}
+use borrow.Author.Rules.{rules}
+use lib.ListN.{length, get_or, drop, drop_of_length-le}
+use Rattle.sieve.specs.Bytes.{first_such}
+use Rattle.lines.specs.Results.{stray_as}
+use Rattle.sieve.specs.Lines.{of_break}
+use Rattle.lines.proofs.ByteByByte.{such_here, such_later, above_breaks}
+use Rattle.lines.proofs.stray_break.Goals as goal
+
+pub returns-then-of_break : goal.returns-then-of_break
+returns-then-of_break c =
+    sym (ap stray_as (c.loop-i.invariant ∙ such_here of_break c.args.s.now c.loop-i.i c.loop-i-test.true (sym c.of_break.ensures ∙ c.if-of_break.true)))
+
+pub loop-i-preserved : goal.loop-i-preserved
+loop-i-preserved c =
+    let s = c.args.s.now in
+    let none = ⊎_elim {C = of_break (get_or s c.loop-i.i 0) ≡ false} (λ w. sym w.2.ensures ∙ w.3.left) (λ w. above_breaks _ w.left) c.if-s-i-le13.branch in
+    c.loop-i.invariant ∙ such_later of_break s c.loop-i.i c.loop-i-test.true none
+
+pub returns : goal.returns
+unfolding first_such
+returns c = sym (ap stray_as (rw (drop_of_length-le c.args.s.now c.loop-i-test.false) at c.loop-i.invariant))

@@ -1,0 +1,33 @@
+-- `mod97::checks97_with` meets its contract: the first four characters are read behind the remainder of what follows them. Assumes nothing.
+use Prim.Native.Nat.{◌^◌, ◌<◌}
+use native.Mathlib.Omega.{arith}
+use mathlib.Core.Bool.{true}
+use mathlib.Core.Path.{◌≡◌}
+use lib.ListN.{get_or}
+use borrow.Author.Rules.{rules}
+use Rattle.sieve.specs.Letters.{digit}
+use Rattle.mod97.proofs.FirstFour.{has_four, pair_digits, head_small, checks_with}
+use Rattle.mod97.proofs.checks97_with.Goals as goal
+use Rattle.mod97.proofs.checks97_with.Goals.{After-wide_digit-2}
+
+-- the letters are few
+few : (c : Start) → c.args.letters < 100 ^ 2
+few c = rw c.requires.s_value.1.0 (head_small (has_four c.args.s.now c.requires.in_bounds))
+
+abbrev start : After-wide_digit-2 → Start
+start c = c
+
+pub overflow_mul-result-2 : goal.overflow_mul-result-2
+overflow_mul-result-2 c = omega (arith, few (start (goal.at.overflow_mul-result-2 c).After-wide_digit-2))
+
+pub overflow_add-result : goal.overflow_add-result
+overflow_add-result c = omega (arith, few (start (goal.at.overflow_add-result c).After-wide_digit-2))
+
+pub overflow_add-result-2 : goal.overflow_add-result-2
+overflow_add-result-2 c = omega (arith, few (start (goal.at.overflow_add-result-2 c).After-wide_digit-2))
+
+pub returns : goal.returns
+returns c =
+    let a = (start (goal.at.returns c).After-wide_digit-2).args in
+    let (long, ((capitals, two), (letters, rest))) = (start (goal.at.returns c).After-wide_digit-2).requires in
+    rw (c.wide_digit.ensures.0, c.wide_digit-2.ensures.0) (checks_with a.s.now a.letters a.rest long capitals two letters rest)
