@@ -47,7 +47,7 @@ unfolding lines_from
 texts s at l [] zero = refl
 texts s at l [] (suc i) = refl
 texts s at l (n ∷ ns) zero = refl
-texts s at l (n ∷ ns) (suc i) = texts s _ n.line ns i
+texts s at l (n ∷ ns) (suc i) = texts s (at + length l + length (break_bytes n.break)) n.line ns i
 
 pub line_text : (s : Bytes) (n : ℕ) → (line_of s n).text ≡ line n (lines_of (cut s))
 unfolding line_of lines_in

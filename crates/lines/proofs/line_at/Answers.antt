@@ -10,6 +10,7 @@ use Rattle.sieve.specs.Characters.{break_width}
 use Rattle.lines.proofs.Fronts.{break_fits}
 use Rattle.lines.proofs.FirstLine.{no_break, goes_on, stops, ends}
 use Rattle.lines.proofs.line_at.Goals as goal
+use Rattle.lines.proofs.line_at.Goals.{then-of_break+else-b-ne0, else-of_break}
 
 pub overflow_add-next : goal.overflow_add-next
 overflow_add-next c =
@@ -25,11 +26,11 @@ pub loop-at-preserved : goal.loop-at-preserved
 loop-at-preserved c =
     let s = c.args.s.now in
     let i = c.loop-at.at in
-    let none : break_width (drop i s) ≡ 0 = ⊎_elim (λ w. sym w.1.ensures ∙ w.2.left) (λ w. no_break s i c.loop-at-test.true (sym c.of_break.ensures ∙ w.left)) c.if-of_break.branch in
+    let none : break_width (drop i s) ≡ 0 = elim c.if-of_break.branch [ then-of_break+else-b-ne0 w ↦ sym w.break_width-b.ensures ∙ w.if-b-ne0.false | else-of_break w ↦ no_break s i c.loop-at-test.true (sym c.of_break.ensures ∙ w.if-of_break.false) ] in
     omega (arith, goes_on s i c.loop-at-test.true none)
 
 pub returns : goal.returns
 returns c =
-    let l = c.loop in
+    let l = c.loop-at in
     let e = ends c.args.s.now l.at c.loop-at-test.false in
     record { end = omega arith; next = omega arith }

@@ -21,17 +21,17 @@ loop-left-init c = refl
 
 pub returns-then-left-le1 : goal.returns-then-left-le1
 returns-then-left-le1 c =
-    let f = c.line_at_lem in
+    let f = c.line_at-line in
     let q : c.loop-left.left - 1 ≡ 0 = omega arith in
     rw (c.loop-left.invariant, q) (this_line c.args.s.now c.loop-left.at f.result f.ensures)
 
 pub returns-then-next-end : goal.returns-then-next-end
 returns-then-next-end c =
-    let f = c.line_at_lem in
+    let f = c.line_at-line in
     let e = more (goal.at.returns-then-next-end c).Else-left-le1 ∙ past_last c.args.s.now c.loop-left.at f.result f.ensures c.if-next-end.true _ in
     record { start = rw e; bytes = rw e }
 
 pub loop-left-preserved : goal.loop-left-preserved
 loop-left-preserved c =
-    let f = c.line_at_lem in
+    let f = c.line_at-line in
     more (goal.at.loop-left-preserved c).Else-left-le1 ∙ after_this c.args.s.now c.loop-left.at f.result f.ensures c.if-next-end.false _

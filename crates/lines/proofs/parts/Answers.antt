@@ -13,8 +13,8 @@ use Rattle.lines.proofs.parts.Goals as goal
 use Rattle.lines.proofs.parts.Goals.{After-line_at-line}
 
 -- the next line starts after this one, where a break ends it
-more : (c : After-line_at-line) → (c.line_at_lem.result.next ≡ c.line_at_lem.result.end → ⊥) → (c.loop-breaks.at ≤ c.line_at_lem.result.end) × (c.line_at_lem.result.end < c.line_at_lem.result.next)
-more c h = (omega (arith, c.line_at_lem.ensures.end), omega (arith, c.line_at_lem.ensures.next))
+more : (c : After-line_at-line) → (c.line_at-line.result.next ≡ c.line_at-line.result.end → ⊥) → (c.loop-breaks.at ≤ c.line_at-line.result.end) × (c.line_at-line.result.end < c.line_at-line.result.next)
+more c h = (omega (arith, c.line_at-line.ensures.end), omega (arith, c.line_at-line.ensures.next))
 
 pub loop-breaks-init : goal.loop-breaks-init
 loop-breaks-init c = (omega arith, omega arith, omega arith, (λ h. absurd (h refl)), from_first _)
@@ -22,21 +22,21 @@ loop-breaks-init c = (omega arith, omega arith, omega arith, (λ h. absurd (h re
 pub returns-then-next-end : goal.returns-then-next-end
 returns-then-next-end c =
     let s = c.args.s.now in
-    c.parted_by.ensures ∙ sym (c.loop-breaks.invariant.4 ∙ ap (held_from c.loop-breaks.breaks c.loop-breaks.n) (unbroken s c.loop-breaks.at c.line_at_lem.result c.line_at_lem.ensures (omega (arith, c.if-next-end.true))) ∙ all_held c.loop-breaks.breaks c.loop-breaks.n)
+    c.parted_by.ensures ∙ sym (c.loop-breaks.invariant.4 ∙ ap (held_from c.loop-breaks.breaks c.loop-breaks.n) (unbroken s c.loop-breaks.at c.line_at-line.result c.line_at-line.ensures (omega (arith, c.if-next-end.true))) ∙ all_held c.loop-breaks.breaks c.loop-breaks.n)
 
 pub loop-breaks-smaller : goal.loop-breaks-smaller
 loop-breaks-smaller c =
-    omega (arith, more (goal.at.loop-breaks-smaller c).After-line_at-line c.if-next-end.false, within c.args.s.now c.loop-breaks.at c.line_at_lem.result c.line_at_lem.ensures c.loop-breaks.invariant.0)
+    omega (arith, more (goal.at.loop-breaks-smaller c).After-line_at-line c.if-next-end.false, within c.args.s.now c.loop-breaks.at c.line_at-line.result c.line_at-line.ensures c.loop-breaks.invariant.0)
 
 pub loop-breaks-preserved : goal.loop-breaks-preserved
 loop-breaks-preserved c =
     let s = c.args.s.now in
-    let r = c.line_at_lem.result in
+    let r = c.line_at-line.result in
     let further = more (goal.at.loop-breaks-preserved c).After-line_at-line c.if-next-end.false in
     let (fits, few, some, wide, is) = c.loop-breaks.invariant in
-    let b = broken s c.loop-breaks.at r c.line_at_lem.ensures (λ w. omega arith) in
+    let b = broken s c.loop-breaks.at r c.line_at-line.ensures (λ w. omega arith) in
     let w : Wide (r.next - r.end) = λ h. b.width in (
-      within s c.loop-breaks.at r c.line_at_lem.ensures fits,
+      within s c.loop-breaks.at r c.line_at-line.ensures fits,
       omega arith,
       omega arith,
       rw c.held-breaks.ensures (still_wide c.loop-breaks.breaks (r.next - r.end) c.loop-breaks.n wide w),

@@ -10,6 +10,7 @@ use Rattle.lines.specs.Results.{stray_as}
 use Rattle.sieve.specs.Lines.{of_break}
 use Rattle.lines.proofs.ByteByByte.{such_here, such_later, above_breaks}
 use Rattle.lines.proofs.stray_break.Goals as goal
+use Rattle.lines.proofs.stray_break.Goals.{then-s-i-le13+else-of_break, else-s-i-le13}
 
 pub returns-then-of_break : goal.returns-then-of_break
 returns-then-of_break c =
@@ -18,7 +19,7 @@ returns-then-of_break c =
 pub loop-i-preserved : goal.loop-i-preserved
 loop-i-preserved c =
     let s = c.args.s.now in
-    let none = ⊎_elim {C = of_break (get_or s c.loop-i.i 0) ≡ false} (λ w. sym w.2.ensures ∙ w.3.left) (λ w. above_breaks _ w.left) c.if-s-i-le13.branch in
+    let none : of_break (get_or s c.loop-i.i 0) ≡ false = elim c.if-s-i-le13.branch [ then-s-i-le13+else-of_break w ↦ sym w.of_break.ensures ∙ w.if-of_break.false | else-s-i-le13 w ↦ above_breaks _ w.if-s-i-le13.false ] in
     c.loop-i.invariant ∙ such_later of_break s c.loop-i.i c.loop-i-test.true none
 
 pub returns : goal.returns
