@@ -2,16 +2,16 @@
 use mathlib.Core.Path.{ap}
 use Rattle.sieve.specs.OneAnswer.{OneAnswer}
 use Rattle.making.proofs.Promise.{one_making}
-use Rattle.making.specs.contracts as contract
+use Rattle.making.specs.contracts as contracts
 use Rattle.making.proofs as fn
 
 -- the destination at exit too
 
-pub one_make_qrr : OneAnswer contract.make_qrr.ended fn.make_qrr.Reads.Learnt
+pub one_make_qrr : OneAnswer contracts.make_qrr.ended fn.make_qrr.Reads.Learnt
 one_make_qrr κs a x y v w h k = let (e, l) = one_making h k in (e, ap (λ d. (tt, (d, tt))) l)
 
-pub one_make_scor : OneAnswer contract.make_scor.ended fn.make_scor.Reads.Learnt
+pub one_make_scor : OneAnswer contracts.make_scor.ended fn.make_scor.Reads.Learnt
 one_make_scor κs a x y v w h k = let (e, l) = one_making h k in (e, ap (λ d. (tt, (d, tt))) l)
 
-pub one_make_iban : OneAnswer contract.make_iban.ended fn.make_iban.Reads.Learnt
+pub one_make_iban : OneAnswer contracts.make_iban.ended fn.make_iban.Reads.Learnt
 one_make_iban κs a x y v w h k = let (e, l) = one_making h k in (e, ap (λ d. (tt, (tt, (tt, (d, tt))))) l)

@@ -24,7 +24,7 @@ inside at l [] zero end h = omega (arith, length-append l [])
 inside at l [] (suc i) end h = omega arith
 inside at l (n ∷ ns) zero end h = omega (arith, length-append l (glued_after (n ∷ ns)))
 inside at l (n ∷ ns) (suc i) end h =
-    inside _ n.line ns i end (omega (arith, length-append l (glued_after (n ∷ ns)), length-append (break_bytes n.break) (n.line ++ glued_after ns)))
+    inside (at + length l + length (break_bytes n.break)) n.line ns i end (omega (arith, length-append l (glued_after (n ∷ ns)), length-append (break_bytes n.break) (n.line ++ glued_after ns)))
 
 -- where the list says that line n lies
 pub record LineAtPlace (p : Bytes) (n start bytes : ℕ) : Type 0 where

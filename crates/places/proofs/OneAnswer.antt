@@ -6,12 +6,12 @@ use denote.Triple.Entry.{Args}
 use denote.Triple.Clauses.{AtExit}
 use Rattle.sieve.specs.Bytes.{Bytes}
 use Rattle.sieve.specs.OneAnswer.{OneAnswer}
-use Rattle.places.specs.contracts as contract
+use Rattle.places.specs.contracts as contracts
 use Rattle.places.proofs as fn
 
-pub one_clear : OneAnswer contract.clear.ended fn.clear.Reads.Learnt
+pub one_clear : OneAnswer contracts.clear.ended fn.clear.Reads.Learnt
 one_clear κs a x y v w h k = (refl, ap (λ l. (l, w.1)) (h ∙ sym k))
 
 -- a part that is handed out is known by its bytes
-pub one_line : (κs : Lfts 2) (a : Args fn.line.signature κs) (x y : Bor Bytes) (e f : AtExit contract.line.ended κs) → fn.line.Reads.Learnt κs a x e → fn.line.Reads.Learnt κs a y f → x.now ≡ y.now
+pub one_line : (κs : Lfts 2) (a : Args contracts.line.signature κs) (x y : Bor Bytes) (e f : AtExit contracts.line.ended κs) → fn.line.Reads.Learnt κs a x e → fn.line.Reads.Learnt κs a y f → x.now ≡ y.now
 one_line κs a x y e f h k = h ∙ sym k
