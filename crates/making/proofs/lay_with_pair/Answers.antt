@@ -17,8 +17,8 @@ use Rattle.making.proofs.lay_with_pair.Goals.{After-lay_at-4}
 abbrev text : (q : After-lay_at-4) → Bytes
 text q = let a = q.args in ((a.head.now ++ ascii "00") ++ a.first.now) ++ a.second.now
 
-text-length : (q : After-lay_at-4) → let a = q.args in 4 + length a.first.now + length a.second.now ≡ length (text q)
-text-length q =
+text_length : (q : After-lay_at-4) → let a = q.args in 4 + length a.first.now + length a.second.now ≡ length (text q)
+text_length q =
     let a = q.args in
     omega (arith, q.requires.parts.two, length-append a.head.now (ascii "00"), length-append (a.head.now ++ ascii "00") a.first.now, length-append ((a.head.now ++ ascii "00") ++ a.first.now) a.second.now)
 
@@ -41,5 +41,5 @@ returns c =
     let q = (goal.at.returns c).After-lay_at-4 in
     let a = c.args in
     let parts : text q ≡ a.head.now ++ (ascii "00" ++ (a.first.now ++ a.second.now)) = append_assoc (a.head.now ++ ascii "00") a.first.now a.second.now ∙ append_assoc a.head.now (ascii "00") (a.first.now ++ a.second.now) in
-    paired_in_front a.dest.now (text q) (omega (arith, text-length q)) (text-length q) (laid q) c.set_pair.ensures
+    paired_in_front a.dest.now (text q) (omega (arith, text_length q)) (text_length q) (laid q) c.set_pair.ensures
     ∙ ap (over a.dest.now) (ap with_pair_set parts ∙ pair_due a.head.now (a.first.now ++ a.second.now) c.requires.parts.two)

@@ -27,13 +27,13 @@ parts t =
     let s = t.args.digits.now in
     (all3 (eqb (length s) 26) (every digit s) (not (zeros s))).0 (formed t)
 
-twenty-six : (t : Then-qrr_part) → length t.args.digits.now ≡ 26
-twenty-six t = eqb-true (length t.args.digits.now) 26 (parts t).0
+twenty_six : (t : Then-qrr_part) → length t.args.digits.now ≡ 26
+twenty_six t = eqb-true (length t.args.digits.now) 26 (parts t).0
 
 pub returns-then-dest-lt27 : goal.returns-then-dest-lt27
 returns-then-dest-lt27 c =
     let s = c.args.digits.now in
-    no_room (formed (goal.at.returns-then-dest-lt27 c).Then-qrr_part) (omega (arith, c.if-dest-lt27.true, twenty-six (goal.at.returns-then-dest-lt27 c).Then-qrr_part, length-append s (check_digit s ∷ [])))
+    no_room (formed (goal.at.returns-then-dest-lt27 c).Then-qrr_part) (omega (arith, c.if-dest-lt27.true, twenty_six (goal.at.returns-then-dest-lt27 c).Then-qrr_part, length-append s (check_digit s ∷ [])))
 
 pub returns-then-qrr_part : goal.returns-then-qrr_part
 returns-then-qrr_part c =
@@ -41,7 +41,7 @@ returns-then-qrr_part c =
     let check = c.check_digit_of_digits in
     let a = c.args in
     let s = a.digits.now in
-    let n = twenty-six left in
+    let n = twenty_six left in
     let size = length-append s (check_digit s ∷ []) in
     let first = c.lay_at.ensures ∙ laid_first a.dest.now s in
     let last = c.lay_at-then-qrr_part.ensures ∙ ap (laid_at 26 (check.result ∷ [])) first ∙ laid_behind a.dest.now s (check.result ∷ []) 26 n in

@@ -11,10 +11,10 @@ use Rattle.shown.proofs.fill_lines.Goals as goal
 use Rattle.shown.proofs.fill_lines.Goals.{After-counted-n}
 
 -- the characters of line i + 1 were counted
-line-counted : (c : After-counted-n)
+line_counted : (c : After-counted-n)
     → let a = c.args in
     c.counted-n.result ≡ characters (line_at a.payload.now a.places.now c.loop-i.i)
-line-counted c =
+line_counted c =
     let a = c.args in
     let start = get_or a.places.now (2 * c.loop-i.i) 0 in
     let bytes = get_or a.places.now (2 * c.loop-i.i + 1) 0 in
@@ -37,7 +37,7 @@ pub loop-i-preserved : goal.loop-i-preserved
 loop-i-preserved c =
     let a = c.args in
     let filled = one_filled a.payload.now a.places.now c.loop-i.invariant c.loop-i-test.true c.requires.inside_two.1 in
-    rw (line-counted c) filled
+    rw (line_counted c) filled
 
 pub returns : goal.returns
 returns c =
