@@ -41,8 +41,8 @@ unfolding numeral
 head_small (four a b x y t) = onto_small 1 (onto 0 a) b (onto_small 0 0 a (omega arith))
 
 -- a letter takes two decimal places
-letter-onto : (n x : ℕ) → capital x ≡ true → onto n x ≡ 100 * n + value x
-letter-onto n x h =
+letter_onto : (n x : ℕ) → capital x ≡ true → onto n x ≡ 100 * n + value x
+letter_onto n x h =
     let (low, top) = is_within 65 90 x h in
     let none : digit x ≡ false = rw (lt-leb x 57 (omega arith)) (and-false (leb 48 x)) in
     rw none
@@ -57,7 +57,7 @@ unfolding numeral
 pair_and_letters r (four a b x y t) letters digits =
     let (ha, hb) = both capital a b letters in
     let (hx, hy) = both digit x y digits in
-    let two : (n : ℕ) → onto (onto n a) b ≡ 10000 * n + 100 * value a + value b = λ n. letter-onto (onto n a) b hb ∙ rw (letter-onto n a ha) (omega arith) in
+    let two : (n : ℕ) → onto (onto n a) b ≡ 10000 * n + 100 * value a + value b = λ n. letter_onto (onto n a) b hb ∙ rw (letter_onto n a ha) (omega arith) in
     record { number_of = rw (hx, hy) (omega arith); behind = rw (two r, two 0, hx, hy) (omega arith) }
 
 -- whether they are right, by the number of what is before the pair and of what is behind it

@@ -1,7 +1,7 @@
 -- A list with three numbers for each line: where it lies in a text, and how many characters it has. Assumes nothing.
 use Rattle.std.specs.Prelude.{ℕ, zero, suc, ◌+◌, ◌*◌, ◌≤◌, ◌<◌, Bool, true, List, [], ◌∷◌, ◌≡◌, length, get_or, drop}
 use Rattle.std.proofs.Math.Option.{Option, some, none}
-use Rattle.std.specs.Borrow.{Bor}
+use Rattle.std.specs.Borrow.{Bor, MutBor}
 use denote.Triple.Both.{Both}
 use Rattle.sieve.specs.Bytes.{Bytes, over}
 use Rattle.sieve.specs.Characters.{characters}
@@ -48,7 +48,7 @@ with_counts text (suc n) list =
     get_or list 0 0 ∷ get_or list 1 0 ∷ characters (part text (record { start = get_or list 0 0; bytes = get_or list 1 0 })) ∷ with_counts text n (drop 2 list)
 
 -- a list with these in its front, of what a call is lent
-abbrev pub shown_over : (list payload places : Both (Bor (List ℕ)) (Bor (List ℕ))) → List ℕ
+abbrev pub shown_over : (list : Both (MutBor (List ℕ)) (MutBor (List ℕ))) (payload places : Both (Bor (List ℕ)) (Bor (List ℕ))) → List ℕ
 shown_over list payload places = over list.entry.now (with_counts payload.entry.now walk_lines places.entry.now)
 
 -- each of so many lines lies inside a text, by three numbers

@@ -14,10 +14,10 @@ use Rattle.shown.proofs.first_wrong.Goals as goal
 use Rattle.shown.proofs.first_wrong.Goals.{After-counted-n}
 
 -- the characters of line i + 1 were counted
-line-counted : (c : After-counted-n)
+line_counted : (c : After-counted-n)
     → let a = c.args in
     c.counted-n.result ≡ characters (line_at3 a.text.now a.list.now c.loop-i.i)
-line-counted c =
+line_counted c =
     let a = c.args in
     let start = get_or a.list.now (3 * c.loop-i.i) 0 in
     let bytes = get_or a.list.now (3 * c.loop-i.i + 1) 0 in
@@ -36,7 +36,7 @@ counted-n-requires c =
     let bytes = get_or a.list.now (3 * c.loop-i.i + 1) 0 in
     let e : start + bytes - start ≡ bytes = omega arith in
     record {
-      few = rw e (omega (arith, length-take bytes (drop start a.text.now), c.shared_slice_known-in-loop-i-2-1.given (3 * c.loop-i.i + 1)));
+      few = rw e (omega (arith, length-take bytes (drop start a.text.now), c.type_inv.list (3 * c.loop-i.i + 1)));
       one_each = λ plain. plain_part (start + bytes - start) start a.text.now (c.loop-i.invariant.0 plain);
     }
 
@@ -47,13 +47,13 @@ returns-then-n-told c =
     ap wrong_as
     (sym
     (c.loop-i.invariant.2
-    ∙ wrong_here a.text.now a.list.now a.count c.loop-i.i h c.requires.size (λ e. omega (arith, c.if-n-told.true, line-counted c))))
+    ∙ wrong_here a.text.now a.list.now a.count c.loop-i.i h c.requires.size (λ e. omega (arith, c.if-n-told.true, line_counted (goal.at.returns-then-n-told c).After-counted-n))))
 
 pub loop-i-preserved : goal.loop-i-preserved
 loop-i-preserved c =
     let a = c.args in
     let h = c.loop-i-test.true in
-    let e = sym (line-counted c) ∙ c.if-n-told.false in
+    let e = sym (line_counted (goal.at.loop-i-preserved c).After-counted-n) ∙ c.if-n-told.false in
     (c.loop-i.invariant.0, omega arith, c.loop-i.invariant.2 ∙ wrong_later a.text.now a.list.now a.count c.loop-i.i h c.requires.size e)
 
 pub returns : goal.returns
