@@ -8,7 +8,7 @@ use mathlib.Core.Path.{◌≡◌, refl, sym, ap, ◌∙◌}
 use lib.Dec.{ltb}
 use lib.ListN.{length}
 use borrow.Author.Tests.{eqb-true, le-ltb}
-use Rattle.sieve.specs.Bytes.{Bytes, ascii, same}
+use Rattle.sieve.specs.Bytes.{Bytes, ascii}
 use Rattle.sieve.specs.Characters.{characters}
 use Rattle.sieve.specs.Kinds.{empty, filled, at_most, formed}
 use Rattle.sieve.specs.Rules.{Rule, When, line, no_text, is_empty, is, has, always, never}
@@ -18,7 +18,7 @@ use Rattle.sieve.proofs.Findings.{found_none, each_none}
 use Rattle.swiss.specs.Forms.{country}
 use Rattle.swiss.specs.declared.Edition.{Edition}
 use Rattle.swiss.specs.declared.Edition.TheVariants.{V22, V24}
-use Rattle.swiss.specs.Limits.{name_most, street_most, house_number_most, postcode_most, town_most, structured, combined, permits_combined}
+use Rattle.swiss.specs.Limits.{name_most, street_most, house_number_most, postcode_most, town_most, structured, combined}
 use Rattle.swiss.specs.Swiss.{is_combined, address}
 use Rattle.swiss.proofs.Editions.{not_combined}
 use Rattle.findings.specs.Findings.{finds}
