@@ -22,8 +22,7 @@ use Rattle.walk.specs.Here.{Here, Arrived}
 use Rattle.walk.specs.Walking.{IsTold}
 use Rattle.walk.proofs.Stepping.{few}
 use Rattle.walk.proofs.Coming.{all_behind}
-use Rattle.walk.proofs.walk.Statement.{statement}
-use Rattle.walk.proofs.walk.Tie as tie
+use Rattle.walk.proofs.walk.Goals as goal
 
 module _ {set : Charset} {s : Bytes} {l : List ℕ} {r : Standing} (arrived : Arrived set s l r) where
   -- before the end: the byte there is bad
@@ -37,26 +36,8 @@ module _ {set : Charset} {s : Bytes} {l : List ℕ} {r : Standing} (arrived : Ar
   clean-told : {p : Parted} {after : List ℕ} → length s ≤ r.at → p ≡ breaks_in s → after ≡ listed_short s → IsTold s (bad_place (of_set set) s) (record { walked = Clean; parted = p }) after
   clean-told h a b = rw (arrived.stopped, le-ltb r.at (length s) h) (record { walked = refl; parted = a; places = b })
 
-come-requires : tie.Need-come-requires
-come-requires c κs = search rules
+pub overflow_add-result : goal.overflow_add-result
+overflow_add-result c = record { fits = omega (arith, c.if-at-s.true, few c.come-standing.ensures.here) }
 
-clear-requires : tie.Need-clear-requires
-clear-requires c κs = search rules
-
-add-t12 : tie.Need-overflow-add-t12
-add-t12 c = let bad = c.before.before.before in record { fits = omega (arith, bad.if1.true, few bad.before.before.come.ensures.here) }
-
-returns : tie.Need-returns
-returns c = let bad = c.before.before.before in bad-told bad.before.before.come.ensures bad.if1.true c.before.clear.ensures
-
-list-requires : tie.Need-list-requires
-list-requires c κs = let clean = c.before in record { set = _; here = to_end clean.before.before.come.ensures clean.if1.false }
-
-counted-requires : tie.Need-counted-requires
-counted-requires c κs = let clean = c.before.before in all_behind (to_end clean.before.before.come.ensures clean.if1.false)
-
-returns-2 : tie.Need-returns-2
-returns-2 c = let clean = c.before.before.before in clean-told clean.before.before.come.ensures clean.if1.false c.counted.ensures c.before.list.ensures
-
-pub walk-spec : {M : Type 1} → statement M
-walk-spec = tie.close (tie.spec come-requires clear-requires add-t12 returns list-requires counted-requires returns-2)
+pub counted-requires : goal.counted-requires
+counted-requires c = all_behind (to_end c.come-standing.ensures c.if-at-s.false)
