@@ -20,7 +20,7 @@ from claims import CLAIMS, CRATES, ONE_ANSWER, ROOT
 from telling import told
 from wrong_programs import wrong_programs
 
-CRATE = re.compile(r'^(\w+):', re.MULTILINE)
+CRATE = re.compile(r'^(\w+)(?: staticlib)?:', re.MULTILINE)
 PUBLIC_MODULE = re.compile(r'^pub mod (\w+);', re.MULTILINE)
 PUBLIC_USE = re.compile(r'^ *pub use .*', re.MULTILINE)
 # The contract ends where the body begins, or at an empty line.
