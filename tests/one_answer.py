@@ -20,19 +20,19 @@ from claims import CLAIMS, CRATES, ONE_ANSWER, ROOT
 from telling import told
 from wrong_programs import wrong_programs
 
-CRATE = re.compile(r'^(\w+):', re.MULTILINE)
+CRATE = re.compile(r'^(\w+)(?: staticlib)?:', re.MULTILINE)
 PUBLIC_MODULE = re.compile(r'^pub mod (\w+);', re.MULTILINE)
 PUBLIC_USE = re.compile(r'^ *pub use .*', re.MULTILINE)
 # The contract ends where the body begins, or at an empty line.
 PUBLIC_FUNCTION = re.compile(r'^ *pub (?:[\w"]+ )*fn (\w+)(.*?)^ *(?:[{}]|$)',
                              re.MULTILINE | re.DOTALL)
 ENSURES = re.compile(r'^ *ensures\b', re.MULTILINE)
-THEOREM = re.compile(r'^pub (one-\S+) :(.*?)^\S', re.MULTILINE | re.DOTALL)
+THEOREM = re.compile(r'^pub (one_\S+) :(.*?)^\S', re.MULTILINE | re.DOTALL)
 METHOD_OF = r'(?:[A-Z]\w*\.)?'  # the type of a method stands before its name
-NAMED_FUNCTION = re.compile(rf'\bfn\.{METHOD_OF}(\w+)\.')
+NAMED_FUNCTION = re.compile(rf'\b(?:fn|contracts)\.{METHOD_OF}(\w+)\.')
 NAME = re.compile(r'`([^`]+)`')
 NAMED_PROGRAM = re.compile(r'`(\w+)/(\w+)`')
-NAMED_CONTRACT = re.compile(rf'\bfn\.{METHOD_OF}(\w+)\.(?:Reads\.Learnt|clauses)\b')
+NAMED_CONTRACT = re.compile(rf'\b(?:fn|contracts)\.{METHOD_OF}(\w+)\.(?:Reads\.Learnt|clauses)\b')
 
 # Functions that are proved by hand: their theorems take a reading of the contract that stands in the
 # same file, which shows that the contract says just that.
@@ -52,7 +52,7 @@ class Function(NamedTuple):
     @property
     def theorem(self):
         """The name of its theorem."""
-        return 'one-' + self.name.replace('_', '-')
+        return 'one_' + self.name
 
     @property
     def key(self):
@@ -105,7 +105,7 @@ def is_of_form(function, statement):
     if key in PARTS:
         return True
     reading = r'\w+' if key in OWN_READINGS else rf'fn\.{METHOD_OF}{function.name}\.Reads\.Learnt'
-    form = rf'\s*OneAnswer fn\.{METHOD_OF}{function.name}\.ended {reading}\s*'
+    form = rf'\s*OneAnswer contracts\.{METHOD_OF}{function.name}\.ended {reading}\s*'
     return re.fullmatch(form, statement) is not None
 
 

@@ -1,11 +1,10 @@
 """C programs for x86-64, made and run with what the Rattle kit has.
 
-The kit has a compiler, a linker, a C library, and on Arm an emulator. It has no headers of the C
-library; those in tests/host/headers declare what our C files use.
+The kit has a compiler, a linker and a C library. It has no headers of the C library; those in
+tests/host/headers declare what our C files use.
 """
 
 import os
-import platform
 import subprocess
 from functools import cache
 from pathlib import Path
@@ -13,8 +12,8 @@ from pathlib import Path
 ROOT = Path(__file__).resolve().parent.parent.parent
 TARGET = 'x86_64-unknown-linux-gnu'
 GUIDE = subprocess.run(['rt', 'doc'], check=True, stdout=subprocess.PIPE, text=True).stdout.strip()
-OWN = Path(GUIDE).parent.parent / 'on' / platform.machine()
-TOOLS = OWN / 'toolchain'
+KIT = Path(GUIDE).parent
+TOOLS = KIT / 'toolchain'
 EMULATOR = TOOLS / 'bin' / 'qemu-x86_64'  # only where the machine is not x86-64
 CLANG = [TOOLS / 'bin' / 'clang', f'--target={TARGET}']
 FLAGS = [
@@ -42,7 +41,7 @@ def compiled(source: Path, folder: Path, *flags: str, compiler=CLANG) -> Path:
 
 def linked(program: Path, *files: Path) -> Path:
     """Link object files and static libraries, of which the first has `main`."""
-    quietly([OWN / 'bin' / 'rattle-link', '--target', TARGET, '--toolchain', TOOLS, '-o', program,
+    quietly([KIT / 'bin' / 'rattle-link', '--target', TARGET, '--toolchain', TOOLS, '-o', program,
              *files])
     return program
 
@@ -51,8 +50,8 @@ def linked(program: Path, *files: Path) -> Path:
 def static_library(crate: str) -> Path:
     """Prove a crate of this repository and make its static library; once, however often it is asked
     for."""
-    quietly(['rt', 'staticlib', crate], ROOT)
-    return ROOT / 'target' / 'staticlib' / f'lib{crate}.a'
+    quietly(['rt', 'lib', crate], ROOT)
+    return ROOT / 'crates' / crate / 'out' / f'lib{crate}.a'
 
 
 def command(program: Path, *words: str, emulator_options=()) -> list:

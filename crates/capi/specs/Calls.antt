@@ -1,7 +1,7 @@
 -- What the calls for C answer of the account, of a number that is made, of a pile, of a season, of SWIFT fields, and of a payload that is mended. Assumes nothing.
 use Rattle.std.specs.Prelude.{ℕ, Bool, List, [], ◌∷◌, ◌++◌, ◌≡◌, length}
 use Rattle.std.proofs.Math.Option.{Option, some, none}
-use Rattle.std.specs.Borrow.{Bor}
+use Rattle.std.specs.Borrow.{Bor, MutBor}
 use denote.Triple.Both.{Both}
 use Rattle.sieve.specs.Bytes.{Bytes}
 use Rattle.sieve.specs.Lines.{cut, lines_of}
@@ -37,13 +37,13 @@ pub record IsPackedMade (formed : Bool) (made dest : Bytes) (r : ℕ) (after : B
 
 -- so of what a call is lent, at its entry and at its exit: a QR reference, a creditor reference, an IBAN
 
-abbrev pub IsPackedQrr : (digits dest : Both (Bor Bytes) (Bor Bytes)) → ℕ → Type 0
+abbrev pub IsPackedQrr : (digits : Both (Bor Bytes) (Bor Bytes)) (dest : Both (MutBor Bytes) (MutBor Bytes)) → ℕ → Type 0
 IsPackedQrr digits dest r = let s = digits.entry.now in IsPackedMade (qrr_part s) (made_qrr s) dest.entry.now r dest.exit.now
 
-abbrev pub IsPackedScor : (reference dest : Both (Bor Bytes) (Bor Bytes)) → ℕ → Type 0
+abbrev pub IsPackedScor : (reference : Both (Bor Bytes) (Bor Bytes)) (dest : Both (MutBor Bytes) (MutBor Bytes)) → ℕ → Type 0
 IsPackedScor reference dest r = let s = reference.entry.now in IsPackedMade (scor_part s) (made_scor s) dest.entry.now r dest.exit.now
 
-abbrev pub IsPackedIban : (country iid account dest : Both (Bor Bytes) (Bor Bytes)) → ℕ → Type 0
+abbrev pub IsPackedIban : (country iid account : Both (Bor Bytes) (Bor Bytes)) (dest : Both (MutBor Bytes) (MutBor Bytes)) → ℕ → Type 0
 IsPackedIban country iid account dest r =
     let c = country.entry.now in
     let i = iid.entry.now in
@@ -61,7 +61,7 @@ pub record IsPackedPiled (buffer : Bytes) (places : List ℕ) (count : ℕ) (ans
   pub lent : after ≡ filled_by (pile_numbers V24 buffer places count) answers (first (pile_findings buffer places count (length answers)))
 
 -- so of what a call is lent
-abbrev pub IsPackedPiledTo : (buffer places : Both (Bor (List ℕ)) (Bor (List ℕ))) → ℕ → (answers : Both (Bor (List ℕ)) (Bor (List ℕ))) → ℕ → Type 0
+abbrev pub IsPackedPiledTo : (buffer places : Both (Bor (List ℕ)) (Bor (List ℕ))) → ℕ → (answers : Both (MutBor (List ℕ)) (MutBor (List ℕ))) → ℕ → Type 0
 IsPackedPiledTo buffer places count answers r = IsPackedPiled buffer.entry.now places.entry.now count answers.entry.now r answers.exit.now
 
 -- the sums as numbers, of CHF and of EUR
@@ -79,7 +79,7 @@ abbrev pub IsPackedTried : Bytes → List ℕ → ℕ → List ℕ → List ℕ 
 IsPackedTried buffer places count list sums r after told = IsReply (season_answer buffer places count list sums) r after told
 
 -- so of what a call is lent
-abbrev pub IsPackedTriedTo : (buffer places : Both (Bor (List ℕ)) (Bor (List ℕ))) → ℕ → (list sums : Both (Bor (List ℕ)) (Bor (List ℕ))) → ℕ → Type 0
+abbrev pub IsPackedTriedTo : (buffer places : Both (Bor (List ℕ)) (Bor (List ℕ))) → ℕ → (list sums : Both (MutBor (List ℕ)) (MutBor (List ℕ))) → ℕ → Type 0
 IsPackedTriedTo buffer places count list sums r =
     IsPackedTried buffer.entry.now places.entry.now count list.entry.now sums.entry.now r list.exit.now sums.exit.now
 
@@ -98,7 +98,7 @@ abbrev pub IsPackedFields : Layout → Bytes → Bytes → List ℕ → ℕ → 
 IsPackedFields L p dest list r after counts = IsReply (swift_answer L p dest list) r after counts
 
 -- so of what a call is lent
-abbrev pub IsPackedFieldsTo : Layout → (payload dest list : Both (Bor (List ℕ)) (Bor (List ℕ))) → ℕ → Type 0
+abbrev pub IsPackedFieldsTo : Layout → (payload : Both (Bor (List ℕ)) (Bor (List ℕ))) (dest list : Both (MutBor (List ℕ)) (MutBor (List ℕ))) → ℕ → Type 0
 IsPackedFieldsTo L payload dest list r = IsPackedFields L payload.entry.now dest.entry.now list.entry.now r dest.exit.now list.exit.now
 
 -- what was counted as numbers: breaks that were not LF, spaces taken, lines dropped
@@ -115,5 +115,5 @@ abbrev pub IsPackedMended : Bytes → Bytes → List ℕ → ℕ → Bytes → L
 IsPackedMended p dest list r after counts = IsReply (mend_told p dest list) r after counts
 
 -- so of what a call is lent
-abbrev pub IsPackedMendedTo : (payload dest list : Both (Bor (List ℕ)) (Bor (List ℕ))) → ℕ → Type 0
+abbrev pub IsPackedMendedTo : (payload : Both (Bor (List ℕ)) (Bor (List ℕ))) (dest list : Both (MutBor (List ℕ)) (MutBor (List ℕ))) → ℕ → Type 0
 IsPackedMendedTo payload dest list r = IsPackedMended payload.entry.now dest.entry.now list.entry.now r dest.exit.now list.exit.now

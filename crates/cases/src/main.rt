@@ -22,20 +22,24 @@
 
 ghost use Rattle.std.specs.Prelude.{◌≤◌, ◌<◌};
 
-use libc::{STDIN_FILENO, STDOUT_FILENO};
 use pile::Piled;
 use scanner::Scan;
 use sieve::{Answer, Break, Fault, Written, line_of, number_of};
 use swift::{Counts, Mapped};
 use swiss::Edition;
 
+// The descriptors.
+const STDIN: i32 = 0;
+
+const STDOUT: i32 = 1;
+
 fn write_told(number: usize, line: usize, place: usize) {
-    io::print_decimal(STDOUT_FILENO, number as u64);
-    io::write_all(STDOUT_FILENO, b" ");
-    io::print_decimal(STDOUT_FILENO, line as u64);
-    io::write_all(STDOUT_FILENO, b" ");
-    io::print_decimal(STDOUT_FILENO, place as u64);
-    io::write_all(STDOUT_FILENO, b"\n");
+    io::print_decimal(STDOUT, number as u64);
+    io::write_all(STDOUT, b" ");
+    io::print_decimal(STDOUT, line as u64);
+    io::write_all(STDOUT, b" ");
+    io::print_decimal(STDOUT, place as u64);
+    io::write_all(STDOUT, b"\n");
 }
 
 // The place that a refusal keeps beside its line; 0 where it keeps none.
@@ -72,18 +76,18 @@ fn write_written(w: Written) {
 }
 
 fn write_part(part: &[u8]) {
-    io::print_decimal(STDOUT_FILENO, part.len() as u64);
-    io::write_all(STDOUT_FILENO, b":");
-    io::write_all(STDOUT_FILENO, part);
+    io::print_decimal(STDOUT, part.len() as u64);
+    io::write_all(STDOUT, b":");
+    io::write_all(STDOUT, part);
 }
 
 // Whether a viewer that is moved on so many times is not done; what it hands out is written.
 fn write_after(payload: &[u8], moves: usize) -> bool {
     let done = viewer::done_after(payload, moves);
     if done {
-        io::write_all(STDOUT_FILENO, b".");
+        io::write_all(STDOUT, b".");
     } else {
-        io::write_all(STDOUT_FILENO, b"+");
+        io::write_all(STDOUT, b"+");
     }
     write_part(viewer::line_after(payload, moves));
     !done
@@ -103,7 +107,7 @@ fn write_view(payload: &[u8]) {
     }
     write_after(payload, moves + 1);
     write_after(payload, MANY_MOVES);
-    io::write_all(STDOUT_FILENO, b"\n");
+    io::write_all(STDOUT, b"\n");
 }
 
 fn run_reading(payload: &[u8], edition: Edition) {
@@ -200,8 +204,8 @@ fn scanned(sizes: &[u8], payload: &[u8]) -> Scan {
 }
 
 fn write_number(n: u16) {
-    io::print_decimal(STDOUT_FILENO, n as u64);
-    io::write_all(STDOUT_FILENO, b" ");
+    io::print_decimal(STDOUT, n as u64);
+    io::write_all(STDOUT, b" ");
 }
 
 fn write_list(list: &[u16]) {
@@ -210,7 +214,7 @@ fn write_list(list: &[u16]) {
         write_number(list[i]);
         i += 1;
     }
-    io::write_all(STDOUT_FILENO, b"\n");
+    io::write_all(STDOUT, b"\n");
 }
 
 // A record that is cut off is not scanned.
@@ -233,7 +237,7 @@ fn write_mapped(counts: Counts, dest: &[u8]) {
     write_told(counts.beneficiary, counts.transaction, counts.remittance);
     write_told(counts.cut, counts.replaced, 0);
     write_part(dest);
-    io::write_all(STDOUT_FILENO, b"\n");
+    io::write_all(STDOUT, b"\n");
 }
 
 fn run_mapping(payload: &[u8], edition: Edition) {
@@ -307,7 +311,7 @@ fn length_of(head: &[u8; 4]) -> usize {
 
 // Fills the slice with what comes next, and runs it as a record; false where there is less.
 fn run_record(record: &mut [u8]) -> bool {
-    if io::read_full(STDIN_FILENO, record) < record.len() {
+    if io::read_full(STDIN, record) < record.len() {
         return false;
     }
     run(record);
@@ -317,7 +321,7 @@ fn run_record(record: &mut [u8]) -> bool {
 // Runs the next record, by way of a buffer; false where there is none, or one that the buffer cannot hold.
 fn run_next(buffer: &mut [u8]) -> bool {
     let mut head = [0u8; 4];
-    if io::read_full(STDIN_FILENO, &mut head) < 4 {
+    if io::read_full(STDIN, &mut head) < 4 {
         return false;
     }
     let n = length_of(&head);

@@ -1,13 +1,12 @@
 // Files judged one by one, a line for each.
 ghost use Rattle.std.specs.Prelude.{◌≤◌, length};
 
-use crate::input::{argument, least, read_file};
+use crate::input::{argument, argument_count, least, read_file};
 use crate::line::{add, add_name, add_named, add_number};
 use crate::payload::READ_BYTES;
-use crate::told::{STATUS_ROOM, complain, tell, write_front};
-use libc::STDERR_FILENO;
+use crate::told::{STATUS_ROOM, STDERR, complain, tell, write_front};
 use sieve::{Answer, Break, Fault, line_of, number_of};
-use std::num::wrapping_add_u64;
+use std::io::IsTerminal;
 
 // The argument that is the first file.
 const FIRST_FILE: usize = 2;
@@ -61,7 +60,7 @@ fn add_refused(out: &mut [u8], at: usize, fault: Fault) -> usize {
 
 fn with_accepted(t: Tally, at: usize) -> Tally {
     Tally {
-        accepted: wrapping_add_u64(t.accepted, 1),
+        accepted: t.accepted.wrapping_add(1),
         refused: t.refused,
         unread: t.unread,
         at: at,
@@ -72,7 +71,7 @@ fn with_accepted(t: Tally, at: usize) -> Tally {
 fn with_refused(t: Tally, at: usize) -> Tally {
     Tally {
         accepted: t.accepted,
-        refused: wrapping_add_u64(t.refused, 1),
+        refused: t.refused.wrapping_add(1),
         unread: t.unread,
         at: at,
         failed: t.failed,
@@ -83,7 +82,7 @@ fn with_unread(t: Tally) -> Tally {
     Tally {
         accepted: t.accepted,
         refused: t.refused,
-        unread: wrapping_add_u64(t.unread, 1),
+        unread: t.unread.wrapping_add(1),
         at: t.at,
         failed: t.failed,
     }
@@ -102,17 +101,17 @@ fn lay_line(out: &mut [u8], t: Tally, name: &[u8], answer: Answer) -> Tally {
 fn clear_progress(terminal: bool) {
     if terminal {
         io::write_all(
-            STDERR_FILENO,
+            STDERR,
             b"\r                                                  \r",
         );
     }
 }
 
-fn judge_file(i: usize, girocode: bool, terminal: bool, out: &mut [u8], t: Tally) -> Tally {
+fn judge_file(rt: &HostRuntime, i: usize, girocode: bool, terminal: bool, out: &mut [u8], t: Tally) -> Tally {
     let mut name = io::buffer();
-    let n = argument(i, &mut name);
+    let n = argument(rt, i, &mut name);
     let mut payload = [0u8; READ_BYTES];
-    let got = read_file(&name[0..n], &mut payload);
+    let got = read_file(rt, &name[0..n], &mut payload);
     let bytes = got.bytes;
     if got.whole {
         let answer = judge(&payload[0..bytes], girocode);
@@ -153,14 +152,14 @@ fn show_progress(done: usize, all: usize, terminal: bool) {
         if done % STEP == 0 {
             let mut line = [0u8; STATUS_ROOM];
             let n = add_progress(&mut line, done, all);
-            io::write_all(STDERR_FILENO, &line[0..n]);
+            io::write_all(STDERR, &line[0..n]);
         }
     }
 }
 
 // Judges the files, and stops where a write fails.
-fn judge_files(girocode: bool, terminal: bool, out: &mut [u8]) -> Tally {
-    let count = os::arg_count();
+fn judge_files(rt: &HostRuntime, girocode: bool, terminal: bool, out: &mut [u8]) -> Tally {
+    let count = argument_count(rt);
     let mut t = Tally {
         accepted: 0,
         refused: 0,
@@ -170,7 +169,7 @@ fn judge_files(girocode: bool, terminal: bool, out: &mut [u8]) -> Tally {
     };
     let mut i = FIRST_FILE;
     while i < count {
-        t = judge_file(i, girocode, terminal, out, t);
+        t = judge_file(rt, i, girocode, terminal, out, t);
         t = flush(out, t, WAITING_BYTES, terminal);
         if t.failed {
             return t;
@@ -197,11 +196,11 @@ fn tell_tally(t: Tally) {
 }
 
 // Where there are too few files to say how far it is, a terminal is left alone.
-pub fn judge_each(girocode: bool) {
-    let many = FIRST_FILE + STEP <= os::arg_count();
-    let terminal = (libc::isatty(STDERR_FILENO) == 1) & many;
+pub fn judge_each(rt: &HostRuntime, girocode: bool) {
+    let many = FIRST_FILE + STEP <= argument_count(rt);
+    let terminal = rt.stderr().is_terminal() & many;
     let mut out = io::large_buffer();
-    let t = judge_files(girocode, terminal, &mut out);
+    let t = judge_files(rt, girocode, terminal, &mut out);
     clear_progress(terminal);
     if t.failed {
         return;

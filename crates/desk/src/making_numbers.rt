@@ -27,29 +27,29 @@ fn answer_made(made: Written, dest: &[u8]) {
     }
 }
 
-pub fn make_qrr() {
+pub fn make_qrr(rt: &HostRuntime) {
     let mut digits = [0u8; PART_BYTES];
-    let n = argument(2, &mut digits);
+    let n = argument(rt, 2, &mut digits);
     let mut dest = [0u8; PART_BYTES];
     let made = making::make_qrr(&digits[0..n], &mut dest);
     answer_made(made, &dest);
 }
 
-pub fn make_scor() {
+pub fn make_scor(rt: &HostRuntime) {
     let mut reference = [0u8; PART_BYTES];
-    let n = argument(2, &mut reference);
+    let n = argument(rt, 2, &mut reference);
     let mut dest = [0u8; PART_BYTES];
     let made = making::make_scor(&reference[0..n], &mut dest);
     answer_made(made, &dest);
 }
 
-pub fn make_iban() {
+pub fn make_iban(rt: &HostRuntime) {
     let mut country = [0u8; PART_BYTES];
     let mut iid = [0u8; PART_BYTES];
     let mut account = [0u8; PART_BYTES];
-    let c = argument(2, &mut country);
-    let i = argument(3, &mut iid);
-    let a = argument(4, &mut account);
+    let c = argument(rt, 2, &mut country);
+    let i = argument(rt, 3, &mut iid);
+    let a = argument(rt, 4, &mut account);
     let mut dest = [0u8; PART_BYTES];
     let made = making::make_iban(&country[0..c], &iid[0..i], &account[0..a], &mut dest);
     answer_made(made, &dest);

@@ -18,9 +18,9 @@ const MEND_BYTES: usize = 4097;
 const FIELD_BYTES: usize = 370;
 
 // The line of a payload that is read as a girocode.
-pub fn judge_girocode() {
+pub fn judge_girocode(rt: &HostRuntime) {
     let mut buffer = io::buffer();
-    let n = read_input(&mut buffer);
+    let n = read_input(rt, &mut buffer);
     let mut line = [0u8; 32];
     let k = report::report_girocode(&buffer[0..n], &mut line);
     if write_front(&line, k) {
@@ -55,9 +55,9 @@ fn answer_mended(mended: Mended, dest: &[u8]) {
 }
 
 // The payload, mended.
-pub fn mend() {
+pub fn mend(rt: &HostRuntime) {
     let mut buffer = [0u8; MEND_BYTES];
-    let n = read_input(&mut buffer);
+    let n = read_input(rt, &mut buffer);
     let mut dest = io::buffer();
     let mended = mender::mend(&buffer[0..n], &mut dest);
     answer_mended(mended, &dest);
@@ -92,9 +92,9 @@ fn answer_mapped(mapped: Mapped, dest: &[u8]) {
 }
 
 // SWIFT's fields of the payload.
-pub fn map() {
+pub fn map(rt: &HostRuntime) {
     let mut buffer = [0u8; READ_BYTES];
-    let n = read_input(&mut buffer);
+    let n = read_input(rt, &mut buffer);
     let mut dest = [0u8; FIELD_BYTES];
     let mapped = swift::fields(&buffer[0..n], Edition::V24, &mut dest);
     answer_mapped(mapped, &dest);

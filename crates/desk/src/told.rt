@@ -3,10 +3,13 @@ ghost use Rattle.std.specs.Prelude.{◌≤◌, length};
 
 use crate::input::least;
 use crate::line::{add, add_name, add_named};
-use libc::{STDERR_FILENO, STDOUT_FILENO};
 use sieve::{Fault, line_of, number_of};
 
-// Where the status goes: standard output and standard error are the user's.
+// The descriptors. Where the status goes is neither of the user's two.
+const STDOUT: i32 = 1;
+
+pub const STDERR: i32 = 2;
+
 const STATUS: i32 = 3;
 
 // Enough for any status: a few words, and five numbers of at most 20 digits.
@@ -22,7 +25,7 @@ pub fn tell(status: &[u8]) {
 // Writes the front of a buffer to standard output; false where it was not written whole.
 pub fn write_front(buffer: &[u8], n: usize) -> bool {
     let end = least(n, buffer.len());
-    io::write_all(STDOUT_FILENO, &buffer[0..end])
+    io::write_all(STDOUT, &buffer[0..end])
 }
 
 // Lays the place of the byte that a refusal points at; nothing where it points at none.
@@ -60,5 +63,5 @@ fn add_unread(line: &mut [u8], name: &[u8]) -> usize
 pub fn complain(name: &[u8]) {
     let mut line = [0u8; NAME_ROOM];
     let n = add_unread(&mut line, name);
-    io::write_all(STDERR_FILENO, &line[0..n]);
+    io::write_all(STDERR, &line[0..n]);
 }

@@ -1,11 +1,10 @@
 // A season: files tried under both editions.
 ghost use Rattle.std.specs.Prelude.{◌≡◌, ◌<◌, ◌≤◌, length};
 
-use crate::input::{argument, least, read_file};
+use crate::input::{argument, argument_count, least, read_file};
 use crate::line::{add, add_name, add_named};
 use crate::told::{NAME_ROOM, STATUS_ROOM, complain, tell, tell_refusal, write_front};
 use season::Tried;
-use std::num::wrapping_add_u64;
 
 // The argument that is the first file.
 const FIRST_FILE: usize = 2;
@@ -28,14 +27,14 @@ fn note_place(places: &mut [u32], i: usize, start: usize, bytes: usize)
 }
 
 // Reads a file into its room, and notes its place. Answers how many files could not be read by that: 0 or 1.
-fn gather_file(i: usize, buffer: &mut [u8], places: &mut [u32]) -> u64
+fn gather_file(rt: &HostRuntime, i: usize, buffer: &mut [u8], places: &mut [u32]) -> u64
     requires { (i < 500) × (length buffer.old ≡ 499000) × (length places.old ≡ 1000) }
 {
     let mut name = io::buffer();
-    let n = argument(FIRST_FILE + i, &mut name);
+    let n = argument(rt, FIRST_FILE + i, &mut name);
     let start = FILE_BYTES * i;
     let end = start + FILE_BYTES;
-    let got = read_file(&name[0..n], &mut buffer[start..end]);
+    let got = read_file(rt, &name[0..n], &mut buffer[start..end]);
     note_place(places, i, start, least(got.bytes, FILE_BYTES));
     if got.whole {
         return 0;
@@ -45,13 +44,13 @@ fn gather_file(i: usize, buffer: &mut [u8], places: &mut [u32]) -> u64
 }
 
 // Reads all files, and answers how many cannot be read. There are at most 500, so no count wraps.
-fn gather_files(count: usize, buffer: &mut [u8], places: &mut [u32]) -> u64
+fn gather_files(rt: &HostRuntime, count: usize, buffer: &mut [u8], places: &mut [u32]) -> u64
     requires { (count ≤ 500) × (length buffer.old ≡ 499000) × (length places.old ≡ 1000) }
 {
     let mut unread: u64 = 0;
     let mut i = 0;
     while i < count {
-        unread = wrapping_add_u64(unread, gather_file(i, buffer, places));
+        unread = unread.wrapping_add(gather_file(rt, i, buffer, places));
         i += 1;
     }
     unread
@@ -91,19 +90,19 @@ fn add_name_line(line: &mut [u8], name: &[u8]) -> usize {
 }
 
 // Writes the name of the file at a position, from 1; false where it is not written whole.
-fn write_name(position: u16) -> bool {
+fn write_name(rt: &HostRuntime, position: u16) -> bool {
     let mut name = io::buffer();
-    let n = argument(FIRST_FILE - 1 + position as usize, &mut name);
+    let n = argument(rt, FIRST_FILE - 1 + position as usize, &mut name);
     let mut line = [0u8; NAME_ROOM];
     let end = add_name_line(&mut line, &name[0..n]);
     write_front(&line, end)
 }
 
 // Writes the names at all positions of a list; false where one is not written whole.
-fn write_names(positions: &[u16]) -> bool {
+fn write_names(rt: &HostRuntime, positions: &[u16]) -> bool {
     let mut i = 0;
     while i < positions.len() {
-        if write_name(positions[i]) {
+        if write_name(rt, positions[i]) {
             i += 1;
         } else {
             return false;
@@ -112,47 +111,47 @@ fn write_names(positions: &[u16]) -> bool {
     true
 }
 
-fn answer_tried(tried: Tried, list: &[u16]) {
+fn answer_tried(rt: &HostRuntime, tried: Tried, list: &[u16]) {
     match tried {
         Tried::Refused(fault) => tell_refusal(fault),
         Tried::Listed(n, francs, euros) => {
             let end = least(n, list.len());
-            if write_names(&list[0..end]) {
+            if write_names(rt, &list[0..end]) {
                 tell_listed(n, francs, euros);
             }
         }
     }
 }
 
-fn try_files(count: usize)
+fn try_files(rt: &HostRuntime, count: usize)
     requires { count ≤ 500 }
 {
     let mut buffer = [0u8; ALL_BYTES];
     let mut places = [0u32; PLACES];
-    let unread = gather_files(count, &mut buffer, &mut places);
+    let unread = gather_files(rt, count, &mut buffer, &mut places);
     if unread != 0 {
         tell_unread(unread);
         return;
     }
     let mut list = [0u16; MOST_FILES];
     let tried = season::season(&buffer, &places, count, &mut list);
-    answer_tried(tried, &list);
+    answer_tried(rt, tried, &list);
 }
 
 // How many arguments are files.
-fn file_count() -> usize {
-    let all = os::arg_count();
+fn file_count(rt: &HostRuntime) -> usize {
+    let all = argument_count(rt);
     if all < FIRST_FILE {
         return 0;
     }
     all - FIRST_FILE
 }
 
-pub fn try_season() {
-    let count = file_count();
+pub fn try_season(rt: &HostRuntime) {
+    let count = file_count(rt);
     if MOST_FILES < count {
         tell(b"refused 5 line 0\n");
         return;
     }
-    try_files(count);
+    try_files(rt, count);
 }

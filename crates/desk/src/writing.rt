@@ -1,7 +1,7 @@
 // Commands that write lines, which are arguments, as a payload.
 ghost use Rattle.std.specs.Prelude.{◌<◌, ◌≤◌, length};
 
-use crate::input::{argument, least};
+use crate::input::{argument, argument_count, least};
 use crate::line::{add, add_named};
 use crate::told::{STATUS_ROOM, tell, tell_refusal, write_front};
 use runs::{characters, same};
@@ -47,13 +47,13 @@ fn note_line(list: &mut [u16], i: usize, start: usize, text: &[u8], girocode: bo
 }
 
 // Lays the lines behind each other in the text, and their places in the list.
-fn gather(count: usize, text: &mut [u8], list: &mut [u16], girocode: bool)
+fn gather(rt: &HostRuntime, count: usize, text: &mut [u8], list: &mut [u16], girocode: bool)
     requires { count ≤ 64 }
 {
     let mut at = 0;
     let mut i = 0;
     while i < count {
-        let end = at + argument(FIRST_LINE + i, &mut text[at..]);
+        let end = at + argument(rt, FIRST_LINE + i, &mut text[at..]);
         note_line(list, i, at, &text[at..end], girocode);
         at = end;
         i += 1;
@@ -84,10 +84,10 @@ fn answer_written(written: Written, dest: &[u8]) {
     }
 }
 
-fn line_count() -> usize
+fn line_count(rt: &HostRuntime) -> usize
     ensures { result ≤ 64 }
 {
-    let all = os::arg_count();
+    let all = argument_count(rt);
     if all < FIRST_LINE {
         return 0;
     }
@@ -106,11 +106,11 @@ fn write_girocode(text: &[u8], list: &[u16], count: usize, brk: Break) {
     answer_written(written, &dest);
 }
 
-fn write_lines(brk: Break, girocode: bool) {
-    let count = line_count();
+fn write_lines(rt: &HostRuntime, brk: Break, girocode: bool) {
+    let count = line_count(rt);
     let mut text = [0u8; TEXT_BYTES];
     let mut list = [0u16; LIST_NUMBERS];
-    gather(count, &mut text, &mut list, girocode);
+    gather(rt, count, &mut text, &mut list, girocode);
     if girocode {
         write_girocode(&text, &list, count, brk);
         return;
@@ -119,15 +119,15 @@ fn write_lines(brk: Break, girocode: bool) {
 }
 
 // Writes the lines with the break that the second argument names; false where it names none.
-pub fn write(girocode: bool) -> bool {
+pub fn write(rt: &HostRuntime, girocode: bool) -> bool {
     let mut name = [0u8; 8];
-    let n = argument(2, &mut name);
+    let n = argument(rt, 2, &mut name);
     if same(&name[0..n], b"lf") {
-        write_lines(Break::Lf, girocode);
+        write_lines(rt, Break::Lf, girocode);
         return true;
     }
     if same(&name[0..n], b"crlf") {
-        write_lines(Break::CrLf, girocode);
+        write_lines(rt, Break::CrLf, girocode);
         return true;
     }
     false

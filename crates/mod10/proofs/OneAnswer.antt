@@ -10,5 +10,5 @@ one_check_digit κs a x y v w h k = (h ∙ sym k, refl)
 pub one_check_digit_of_digits : OneAnswer contracts.check_digit_of_digits.ended fn.check_digit_of_digits.Reads.Learnt
 one_check_digit_of_digits κs a x y v w h k = (h ∙ sym k, refl)
 
-pub one_checks10 : OneAnswer contract.checks10.ended fn.checks10.Reads.Learnt
+pub one_checks10 : OneAnswer contracts.checks10.ended fn.checks10.Reads.Learnt
 one_checks10 κs a x y v w h k = (h ∙ sym k, refl)

@@ -1,6 +1,6 @@
 -- What the calls for C of a layout answer: the place of a line; the reader and the writer, and what lent memory then holds. Assumes nothing.
 use Rattle.std.specs.Prelude.{ℕ, ◌+◌, ◌-◌, ◌*◌, ◌≤◌, Bool, cond, List, ◌≡◌, length, get_or}
-use Rattle.std.specs.Borrow.{Bor}
+use Rattle.std.specs.Borrow.{Bor, MutBor}
 use denote.Triple.Both.{Both}
 use Rattle.sieve.specs.declared.Break.{Break}
 use Rattle.sieve.specs.Bytes.{Bytes, within}
@@ -48,6 +48,6 @@ pub record IsPackedWritten (L : Layout) (text : Bytes) (list : List ℕ) (count 
   pub lent : after ≡ (write_answer L text list (told_count count) k dest).lent
 
 -- so of what a call is lent, at its entry and at its exit, with a break of CR LF or of LF
-abbrev pub IsPackedWrittenTo : Layout → (text list : Both (Bor (List ℕ)) (Bor (List ℕ))) → ℕ → Bool → (dest : Both (Bor Bytes) (Bor Bytes)) → ℕ → Type 0
+abbrev pub IsPackedWrittenTo : Layout → (text list : Both (Bor (List ℕ)) (Bor (List ℕ))) → ℕ → Bool → (dest : Both (MutBor Bytes) (MutBor Bytes)) → ℕ → Type 0
 IsPackedWrittenTo L text list count crlf dest r =
     IsPackedWritten L text.entry.now list.entry.now count (break_for crlf) dest.entry.now r dest.exit.now

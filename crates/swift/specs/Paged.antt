@@ -1,7 +1,7 @@
 -- What a page of lines holds while it is laid. Assumes nothing.
 use Rattle.std.specs.Prelude.{ℕ, zero, suc, ◌+◌, ◌*◌, ◌≤◌, ◌<◌, List, [], ◌∷◌, ◌++◌, map, ◌≡◌, length, get_or, take}
 use Rattle.std.proofs.Math.Option.{none}
-use Rattle.std.specs.Borrow.{Bor}
+use Rattle.std.specs.Borrow.{Bor, MutBor}
 use denote.Triple.Both.{Both}
 use Rattle.sieve.specs.declared.Break.TheVariants.{CrLf}
 use Rattle.sieve.specs.Bytes.{Bytes}
@@ -89,23 +89,23 @@ pub record IsFollowed (buffer : Bytes) (page : Page) (n : ℕ) (qs : List Portio
 -- of what a call is lent, at its entry and at its exit
 
 -- on its buffer portions were laid behind what lay on the page
-abbrev pub IsLaidBehind : (buffer : Both (Bor Bytes) (Bor Bytes)) → Page → ℕ → List Portion → Page → Type 0
+abbrev pub IsLaidBehind : (buffer : Both (MutBor Bytes) (MutBor Bytes)) → Page → ℕ → List Portion → Page → Type 0
 IsLaidBehind buffer page n qs r = IsFollowed buffer.entry.now page n qs buffer.exit.now r
 
 -- those that a definition makes of a payload's lines
-abbrev pub IsFollowedBy : (buffer : Both (Bor Bytes) (Bor Bytes)) → Page → ℕ → (List Bytes → List Portion) → (payload : Both (Bor Bytes) (Bor Bytes)) → Page → Type 0
+abbrev pub IsFollowedBy : (buffer : Both (MutBor Bytes) (MutBor Bytes)) → Page → ℕ → (List Bytes → List Portion) → (payload : Both (Bor Bytes) (Bor Bytes)) → Page → Type 0
 IsFollowedBy buffer page n part payload r = IsLaidBehind buffer page n (part (lines_of (cut payload.entry.now))) r
 
 -- one line, of a text behind a prefix
-abbrev pub IsTextLaid : (buffer : Both (Bor Bytes) (Bor Bytes)) → Page → (prefix text : Both (Bor Bytes) (Bor Bytes)) → Page → Type 0
+abbrev pub IsTextLaid : (buffer : Both (MutBor Bytes) (MutBor Bytes)) → Page → (prefix text : Both (Bor Bytes) (Bor Bytes)) → Page → Type 0
 IsTextLaid buffer page prefix text r = IsLaidBehind buffer page 1 (on_lines 1 (prefix.entry.now ++ text.entry.now) ∷ []) r
 
 -- one line, of a payload's line n behind a prefix
-abbrev pub IsLineLaid : (buffer : Both (Bor Bytes) (Bor Bytes)) → Page → (prefix payload : Both (Bor Bytes) (Bor Bytes)) → ℕ → Page → Type 0
+abbrev pub IsLineLaid : (buffer : Both (MutBor Bytes) (MutBor Bytes)) → Page → (prefix payload : Both (Bor Bytes) (Bor Bytes)) → ℕ → Page → Type 0
 IsLineLaid buffer page prefix payload n r = IsFollowedBy buffer page 1 (λ ls. on_lines 1 (prefix.entry.now ++ line n ls) ∷ []) payload r
 
 -- field 70, of a kind of reference, the reference and the message
-abbrev pub IsReferenceLaid : (buffer : Both (Bor Bytes) (Bor Bytes)) → Page → (kind reference message : Both (Bor Bytes) (Bor Bytes)) → Page → Type 0
+abbrev pub IsReferenceLaid : (buffer : Both (MutBor Bytes) (MutBor Bytes)) → Page → (kind reference message : Both (Bor Bytes) (Bor Bytes)) → Page → Type 0
 IsReferenceLaid buffer page kind reference message r =
     IsLaidBehind buffer page 4 (remittance_of kind.entry.now reference.entry.now message.entry.now) r
 
@@ -119,7 +119,7 @@ pub record IsRemitted (buffer : Bytes) (page : Page) (reference : Line) (first :
   pub follows : (s : Bytes) → Lined reference s → (first ≡ 0 → s ≡ []) → IsFollowed buffer page 4 (remitted first s (leads text)) after r
 
 -- so of what a call is lent, at its entry and at its exit
-abbrev pub IsRemittedOn : (buffer : Both (Bor Bytes) (Bor Bytes)) → Page → Line → ℕ → (message : Both (Bor Bytes) (Bor Bytes)) → Page → Type 0
+abbrev pub IsRemittedOn : (buffer : Both (MutBor Bytes) (MutBor Bytes)) → Page → Line → ℕ → (message : Both (Bor Bytes) (Bor Bytes)) → Page → Type 0
 IsRemittedOn buffer page reference first message r = IsRemitted buffer.entry.now page reference first message.entry.now buffer.exit.now r
 
 -- a bill that the reader accepts under an edition, and the places of its lines
