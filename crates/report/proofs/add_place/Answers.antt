@@ -17,6 +17,7 @@ use Rattle.report.proofs.Adding.{few_digits}
 use Rattle.report.proofs.add_place.Goals as goal
 
 pub returns-in-BadCharacter-clause-upper_bound : goal.returns-in-BadCharacter-clause-upper_bound
-returns-in-BadCharacter-clause-upper_bound c = let (size, text) = c.add_named.ensures in
+returns-in-BadCharacter-clause-upper_bound c =
     let place = c.in-BadCharacter.place in
-    let small = rw c.in-BadCharacter.is at c.requires.0 in rw c.in-BadCharacter.is ((omega (arith, size, length-append (ascii " byte ") (in_decimal place), few_digits place small), (size, text)).0)
+    let small = rw c.in-BadCharacter.is at c.requires.0 in
+    omega (arith, c.add_named.ensures.value, length-append (ascii " byte ") (in_decimal place), few_digits place small)

@@ -11,42 +11,23 @@ use Rattle.sieve.specs.declared.Fault.{Fault}
 use Rattle.report.specs.Spoken.{in_decimal, line_end, spoken_place, spoken}
 use Rattle.report.proofs.Adding.{begun, more, few_digits}
 use Rattle.report.proofs.compose_refused.Goals as goal
-use Rattle.report.proofs.compose_refused.Goals.{After-add_place-e, After-line_of, After-number_of, After-slice_known-2-1, After-slice_known-3-1, Start}
-
--- where the number was asked for, from behind it, and where all began
-abbrev number-asked : After-slice_known-2-1 → After-number_of
-number-asked c = c.before.before.before
-
-abbrev start : After-slice_known-2-1 → Start
-start c = (number-asked c).before.before.before.before
-
--- where the line was asked for, from behind it, and the number before that
-abbrev line-asked : After-slice_known-3-1 → After-line_of
-line-asked c = c.before.before.before
-
-abbrev number-laid : After-line_of → After-slice_known-2-1
-number-laid c = c.before.before.before
-
--- where the line was laid, from behind the place
-abbrev line-laid : After-add_place-e → After-slice_known-3-1
-line-laid c = c.before.before
+use Rattle.report.proofs.compose_refused.Goals.{After-add_place-e, After-slice_known-2-1, After-slice_known-3-1}
 
 -- a number of at most three digits is said
-upto-number : (c : After-slice_known-2-1) → c.add_named-b.result ≤ 11
-upto-number c =
-    let n = (number-asked c).number_of in
-    omega (arith, c.add_named-b.ensures.value, length-append (ascii "refused ") (in_decimal n.result), few_digits n.result (rw n.ensures (start c).requires.0.0))
+upto_number : (c : After-slice_known-2-1) → c.add_named-b.result ≤ 11
+upto_number c =
+    let n = c.number_of in
+    omega (arith, c.add_named-b.ensures.value, length-append (ascii "refused ") (in_decimal n.result), few_digits n.result (rw n.ensures c.requires.0.0))
 
 -- the line too
-upto-place : (c : After-slice_known-3-1) → c.add_named-d.result ≤ 20
-upto-place c =
-    let asked = line-asked c in
-    let (_, line, _) = (start (number-laid asked)).requires.0 in
-    omega (arith, upto-number (number-laid asked), c.add_named-d.ensures.value, length-append (ascii " line ") (in_decimal asked.Line-of.result), few_digits asked.Line-of.result (rw asked.Line-of.ensures line))
+upto_place : (c : After-slice_known-3-1) → c.add_named-b.result ≤ 11 → c.add_named-d.result ≤ 20
+upto_place c few =
+    let (_, line, _) = c.requires.0 in
+    omega (arith, few, c.add_named-d.ensures.value, length-append (ascii " line ") (in_decimal c.line_of.result), few_digits c.line_of.result (rw c.line_of.ensures line))
 
 -- and the place
-upto-end : (c : After-add_place-e) → c.add_place-e.result ≤ 29
-upto-end c = omega (arith, c.add_place-e.ensures.upper_bound, upto-place (line-laid c))
+upto_end : (c : After-add_place-e) → c.add_named-d.result ≤ 20 → c.add_place-e.result ≤ 29
+upto_end c few = omega (arith, c.add_place-e.ensures.upper_bound, few)
 
 -- six texts, two and two of them laid together
 six : (a b c d e f : Bytes) → (((a ++ b) ++ (c ++ d)) ++ e) ++ f ≡ a ++ (b ++ (c ++ (d ++ (e ++ f))))
@@ -59,22 +40,21 @@ all_said f n l e g = six (ascii "refused ") (in_decimal n) (ascii " line ") (in_
 
 pub add_named-d-requires : goal.add_named-d-requires
 add_named-d-requires c =
-    let (short, room) = (start (number-laid (goal.at.add_named-d-requires c).After-line_of)).requires in
-    (rw c.Line-of.ensures short.1, omega (arith, upto-number (number-laid (goal.at.add_named-d-requires c).After-line_of), room))
+    let (short, room) = c.requires in
+    (rw c.line_of.ensures short.1, omega (arith, upto_number (goal.at.add_named-d-requires c).After-slice_known-2-1, room))
 
 pub add_place-e-requires : goal.add_place-e-requires
 add_place-e-requires c =
-    let ((_, _, place), room) = (start (number-laid (line-asked (goal.at.add_place-e-requires c).After-slice_known-3-1))).requires in
-    (omega (arith, place), omega (arith, upto-place (goal.at.add_place-e-requires c).After-slice_known-3-1, room))
+    let ((_, _, place), room) = c.requires in
+    (omega (arith, place), omega (arith, upto_place (goal.at.add_place-e-requires c).After-slice_known-3-1 (upto_number (goal.at.add_place-e-requires c).After-slice_known-2-1), room))
 
 pub add-requires : goal.add-requires
-add-requires c = omega (arith, upto-end (goal.at.add-requires c).After-add_place-e, (start (number-laid (line-asked (line-laid (goal.at.add-requires c).After-add_place-e)))).requires.1)
+add-requires c =
+    let at = goal.at.add-requires c in
+    omega (arith, upto_end at.After-add_place-e (upto_place at.After-slice_known-3-1 (upto_number at.After-slice_known-2-1)), c.requires.1)
 
 pub returns-clause-line_after : goal.returns-clause-line_after
-returns-clause-line_after c = let at-line = line-laid (goal.at.returns-clause-line_after c).After-add_place-e in
-    let asked = line-asked at-line in
-    let at-number = number-laid asked in
-    let fault = (start at-number).args.fault in
-    let line = asked.Line-of in
-    let number = (number-asked at-number).number_of in
-    let s = more line_end (more (spoken_place (paper_fault fault).place) (more (ascii " line " ++ in_decimal line.result) (begun (ascii "refused " ++ in_decimal number.result) at-number.add_named-b.ensures) at-line.add_named-d.ensures) c.add_place-e.ensures.value) c.add.ensures in s.text ∙ all_said fault number.result line.result number.ensures line.ensures
+returns-clause-line_after c = let fault = c.args.fault in
+    let line = c.line_of in
+    let number = c.number_of in
+    let s = more line_end (more (spoken_place (paper_fault fault).place) (more (ascii " line " ++ in_decimal line.result) (begun (ascii "refused " ++ in_decimal number.result) (c.add_named-b.ensures.value, c.add_named-b.ensures.line_after)) (c.add_named-d.ensures.value, c.add_named-d.ensures.line_after)) (c.add_place-e.ensures.value, c.add_place-e.ensures.line_after)) (c.add.ensures.value, c.add.ensures.line_after) in s.text ∙ all_said fault number.result line.result number.ensures line.ensures

@@ -10,6 +10,6 @@ use Rattle.report.specs.Spoken.{spoken}
 use Rattle.report.proofs.lay_answer.Goals as goal
 
 pub returns-clause-upper_bound : goal.returns-clause-upper_bound
-returns-clause-upper_bound c = let f = c.compose-n in
-    let said : take (f.result - 0) f.new.0 ≡ spoken (paper c.args.answer) = rw (sub-zero f.result) f.ensures.1 in
-    let l = c.lay in rw (← said) ((l.ensures.0, (l.ensures.1, omega (arith, l.ensures.0, room_fits c.args.dest.now (take (f.result - 0) f.new.0)))).2)
+returns-clause-upper_bound c =
+    let f = c.compose-n in
+    omega (arith, c.lay.ensures.value, room_fits c.args.dest.now (take (f.result - 0) f.new.line))
