@@ -1,0 +1,54 @@
+-- `giro_writer::write` meets its contract: the reader is asked about the joined bytes, which lie in a buffer. Assumes nothing.
+use mathlib.Core.Path.{◌≡◌, refl, sym, ap, ◌∙◌}
+use borrow.Author.Rules.{rules}
+use Rattle.sieve.specs.Verdict.{verdict}
+use Rattle.sieve.specs.Paper.{paper}
+use Rattle.girocode.specs.Girocode.{girocode}
+use Rattle.joining.specs.Handing.{bytes_of}
+use Rattle.joining.specs.Stages.{Joined}
+use Rattle.joining.proofs.Laying.{laid_front}
+use Rattle.joining.proofs.Stages.{stops, goes_on, settles}
+use Rattle.girocode.proofs.Serves.{girocode_serves}
+use Rattle.giro_writer.proofs.write.Goals as goal
+use Rattle.giro_writer.proofs.write.Goals.{After-verdict-answer, In-Bytes-2, Start}
+
+-- where all began, and where the lines were known to be gathered
+abbrev start : In-Bytes-2 → Start
+start q = q.before.before.before.before.before.before
+
+abbrev known : After-verdict-answer → In-Bytes-2
+known q = q.before.before.before.before.before.before.before
+
+-- lines that are gathered can be joined
+gathered-joined : (c : In-Bytes-2)
+    → let a = (start c).args in
+    Joined girocode a.text.now a.places.now a.places.now a.count a.brk a.dest.now c.in-Bytes.n
+unfolding girocode
+gathered-joined c = goes_on refl girocode_serves (sym c.gather.ensures ∙ c.in-Bytes.is)
+
+-- the verdict is that on the joined bytes, which lie in the front of the buffer
+judged : (c : After-verdict-answer)
+    → let a = (start (known c)).args in
+    paper c.verdict-answer.result ≡ verdict girocode (bytes_of a.text.now a.places.now a.count a.brk)
+judged c =
+    let a = (start (known c)).args in
+    c.verdict-answer.ensures ∙ ap (verdict girocode) (laid_front (bytes_of a.text.now a.places.now a.count a.brk) _ _ _ (gathered-joined (known c)).of_length.bytes_are c.lay_lines.ensures)
+
+pub lay_lines-requires : goal.lay_lines-requires
+unfolding girocode
+lay_lines-requires c = search (rules, gathered-joined (goal.at.lay_lines-requires c).In-Bytes-2)
+
+pub slice_bounds-verdict-end : goal.slice_bounds-verdict-end
+unfolding girocode
+slice_bounds-verdict-end c = search (rules, gathered-joined (goal.at.slice_bounds-verdict-end c).In-Bytes-2)
+
+pub settle-requires : goal.settle-requires
+settle-requires c = (gathered-joined (known (goal.at.settle-requires c).After-verdict-answer)).of_length
+
+pub returns-in-Refused : goal.returns-in-Refused
+unfolding girocode
+returns-in-Refused c = stops refl girocode_serves (sym c.gather.ensures ∙ c.in-Refused.is)
+
+pub returns-in-Bytes : goal.returns-in-Bytes
+returns-in-Bytes c =
+    settles girocode_serves (gathered-joined (known (goal.at.returns-in-Bytes c).After-verdict-answer)) c.verdict-answer.result (judged (goal.at.returns-in-Bytes c).After-verdict-answer) c.settle.ensures.value c.settle.ensures.dest_after
