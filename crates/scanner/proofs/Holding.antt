@@ -73,7 +73,7 @@ hand_holds {p} {t} b (overfull more len) = rw (handed_over_lem t b (omega (arith
 pub all_hold : {p : Bytes} {t : Scan} (bits : List Bytes) → Holds p t → Holds (p ++ flatten bits) (handed_all t bits)
 unfolding handed_all flatten
 all_hold {p} [] h = rw append-nil h
-all_hold {p} {t} (b ∷ bs) h = rw (← append_assoc p b (flatten bs)) (all_hold bs (hand_holds b h))
+all_hold {p} {t} (b ∷ bs) h = rw (← append_assoc p b (flatten bs)) (all_hold {p = p ++ b} bs (hand_holds b h))
 
 module _ (ed : Edition) where
   -- over 997 bytes the verdict is 2

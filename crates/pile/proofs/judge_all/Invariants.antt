@@ -1,0 +1,17 @@
+use Prim.Native.Nat.{◌+◌, ◌-◌, ◌*◌, ◌≤◌}
+use native.Mathlib.Omega.{arith}
+use mathlib.Core.Path.{◌≡◌}
+use lib.ListN.{length-take, length-drop}
+use Rattle.runs.proofs.Lays.{Laying, none_laid}
+use Rattle.joining.specs.Handing.{span_at, Within}
+use Rattle.joining.proofs.Laying.{whole}
+use Rattle.pile.specs.Pile.{pile_numbers}
+use Rattle.pile.proofs.Entries.{entries_length, entry_laid}
+use Rattle.pile.proofs.judge_all.Given as goal
+
+abbrev pub invariant-loop-i : goal.invariant-loop-i
+invariant-loop-i l =
+    (l.i ≤ l.count) × Laying l.initial.answers (pile_numbers l.edition l.buffer l.places l.count) (2 * l.i) l.answers
+
+abbrev pub decreases-loop-i : goal.decreases-loop-i
+decreases-loop-i l = l.count - l.i

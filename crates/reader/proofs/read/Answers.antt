@@ -1,0 +1,34 @@
+-- `reader::read` meets its contract: what the verdict says of the payload leaves one way for the reading to end. Assumes nothing.
+use Prim.Native.Nat.{◌<◌}
+use native.Mathlib.Omega.{arith}
+use mathlib.Core.Path.{refl, sym}
+use lib.ListN.{length}
+use Rattle.sieve.specs.Lines.{bill_of}
+use Rattle.sieve.proofs.Placing.{list_length}
+use Rattle.swiss.specs.Swiss.{swiss_in}
+use Rattle.whole.proofs.Judging.{judged_length}
+use Rattle.whole.proofs.Reading.{ends_refused, ends_short, ends_listed}
+use Rattle.reader.proofs.Shown.{inside, shown}
+use borrow.Author.Rules.{rules}
+use Rattle.reader.proofs.read.Goals as goal
+
+pub returns-then-list-lt-LIST_SIZE : goal.returns-then-list-lt-LIST_SIZE
+returns-then-list-lt-LIST_SIZE c =
+    let short : length c.args.list.now < 102 = omega (arith, c.if-list-lt-LIST_SIZE.true) in
+    ends_short c.judge_in.ensures c.in-Accepted.is short refl
+
+pub show-requires : goal.show-requires
+show-requires c =
+    let judged = c.judge_in.ensures in
+    (inside _ (rw c.in-Accepted.is at judged), c.if-list-lt-LIST_SIZE.false)
+
+pub returns-in-Refused : goal.returns-in-Refused
+returns-in-Refused c = ends_refused c.judge_in.ensures c.in-Refused.is refl
+
+pub returns-else-list-lt-LIST_SIZE : goal.returns-else-list-lt-LIST_SIZE
+returns-else-list-lt-LIST_SIZE c =
+    let judged = c.judge_in.ensures in
+    let list = shown _ (rw c.in-Accepted.is at judged) in
+    let asked = c.args in
+    let size = list_length (swiss_in asked.edition) (bill_of asked.payload.now) in
+    ends_listed judged c.in-Accepted.is c.if-list-lt-LIST_SIZE.false (rw (list, size) at c.show.ensures)
