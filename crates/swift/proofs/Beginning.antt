@@ -9,7 +9,6 @@ use lib.ListN.{length, take, get_or, set, length-set}
 use Rattle.sieve.specs.Bytes.{Bytes}
 use Rattle.swift.specs.declared.Row.{Row}
 use Rattle.swift.specs.Letters.{in_x, barred, full_stop, replaced, laid_byte, laid_from, laid_line, replaced_from, replaced_in_line}
-use Rattle.swift.specs.Portions.{line_most}
 use Rattle.swift.specs.Rowed.{RowFits, RowHolds, IsLineBegun}
 
 -- a character that is laid as a colon or hyphen is one, and is replaced where it begins a line

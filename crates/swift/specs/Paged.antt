@@ -17,7 +17,7 @@ use Rattle.swift.specs.declared.Line.{Line}
 use Rattle.swift.specs.declared.Page.{Page}
 use Rattle.swift.specs.declared.Row.{Row}
 use Rattle.swift.specs.Letters.{leads, laid_line}
-use Rattle.swift.specs.Portions.{line_most, rows, Portion, on_lines, kept_in, cut_in, replaced_in}
+use Rattle.swift.specs.Portions.{rows, Portion, on_lines, kept_in, cut_in, replaced_in}
 use Rattle.swift.specs.Fields.{remittance_of, contents, counts_of}
 use Rattle.swift.specs.Rowed.{RowFits, RowHolds, Lined}
 

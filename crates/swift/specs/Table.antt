@@ -1,5 +1,5 @@
 -- Worked examples, which the prover computes: a whole payload, and what is laid and told of it. Assumes nothing.
-use Rattle.std.specs.Prelude.{ℕ, ◌-◌, Bool, false, ◌&&◌, T, eqb, length, take}
+use Rattle.std.specs.Prelude.{ℕ, Bool, false, ◌&&◌, T, eqb, length, take}
 use Prim.Native.String.{String}
 use mathlib.Core.List.{List, [], ◌∷◌, ◌++◌, flatten}
 use Rattle.sieve.specs.declared.Break.{Break}
