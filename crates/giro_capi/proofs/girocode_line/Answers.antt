@@ -9,4 +9,4 @@ use Rattle.giro_capi.proofs.girocode_line.Goals as goal
 
 pub returns : goal.returns
 unfolding girocode
-returns c = c.packed_line.ensures ∙ line_packed girocode_serves c.judge-answer.ensures _
+returns c = c.packed_line.ensures ∙ line_packed girocode_serves c.judge-answer.ensures c.args.line
