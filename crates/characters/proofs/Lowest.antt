@@ -1,11 +1,11 @@
 -- The lowest bit of a number, and what is left without it. Assumes nothing.
-use Prim.Native.Nat.{ℕ, zero, suc, ◌+◌, ◌-◌, ◌*◌, ◌/◌, ◌%◌, ◌^◌, ◌≤◌, ◌<◌}
+use Prim.Native.Nat.{ℕ, zero, suc, ◌+◌, ◌-◌, ◌*◌, ◌/◌, ◌%◌, ◌^◌, ◌<◌}
 use native.Mathlib.Nat.{add-zero, mul-one, le_of_suc-le-suc, pow-suc}
 use native.Mathlib.Omega.{arith}
 use mathlib.Core.Path.{◌≡◌, refl, sym, ap, ap₂, ◌∙◌}
 use lib.Bits.{bit_and, and_block, and_step, and_self, shifted_half, shifted_even}
 use lib.Count.{count_trailing_zeros}
-use lib.Pow.{pow_pos, pow-add, pow-sub-lt}
+use lib.Pow.{pow_pos, pow-sub-lt}
 use Rattle.characters.specs.Marks.{without_first}
 
 -- the lowest bit of an odd number that is shifted

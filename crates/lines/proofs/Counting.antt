@@ -10,7 +10,6 @@ use Rattle.sieve.specs.declared.Break.{Break}
 use Rattle.sieve.specs.declared.Break.TheVariants.{Lf, CrLf}
 use Rattle.sieve.specs.Bytes.{Bytes}
 use Rattle.sieve.specs.Lines.{cut, breaks_of, kind}
-use Rattle.lines.specs.declared.Parted.{Parted}
 use Rattle.lines.specs.declared.Parted.TheVariants.{Alike}
 use Rattle.lines.specs.Parted.{breaks_in, returns_in}
 use Rattle.lines.proofs.Parting.{parted_from, no_more, alike, from_first}

@@ -4,12 +4,11 @@ use native.Mathlib.Nat.{add-zero, add_assoc, le_refl}
 use native.Mathlib.Omega.{arith}
 use mathlib.Core.Bool.{true, false, true≢false}
 use mathlib.Core.List.{List}
-use mathlib.Core.Path.{◌≡◌, refl, sym, ap, ap₂, ◌∙◌}
+use mathlib.Core.Path.{◌≡◌, refl, sym, ap₂, ◌∙◌}
 use lib.Bits.{bit_and}
 use lib.Count.{count_trailing_zeros}
 use lib.ListN.{length, get_or, take, drop, length-drop}
 use lib.Seq.{length-take-le, get_or-take, get_or-drop}
-use Rattle.sieve.specs.declared.Charset.{Charset}
 use Rattle.sieve.specs.Bytes.{Bytes}
 use Rattle.sieve.specs.Places.{walk_numbers}
 use Rattle.sieve.specs.Latin.{in_one}
@@ -18,7 +17,7 @@ use Rattle.characters.proofs.Left.{Found, found, none_left}
 use Rattle.characters.proofs.Marked.{kept}
 use Rattle.walk.specs.declared.Behind.{Behind}
 use Rattle.walk.specs.declared.Ahead.{Ahead}
-use Rattle.walk.specs.Here.{Here, Going, Among, Inside, Through, GoneThrough, Reached, GoneOn}
+use Rattle.walk.specs.Here.{Going, Among, Inside, Through, GoneThrough, Reached, GoneOn}
 use Rattle.walk.specs.Walking.{noted, behind_one_passed}
 use Rattle.walk.proofs.Coming.{plain_passed, line_feed, carriage_return, a_break_passed}
 

@@ -28,7 +28,7 @@ use Rattle.lines.specs.declared.Parted.TheVariants.{Alike, Unlike}
 use Rattle.lines.specs.Parted.{parted, breaks_in}
 use Rattle.walk.specs.declared.Told.{Told}
 use Rattle.walk.specs.declared.Walked.TheVariants.{Clean, Bad}
-use Rattle.walk.specs.Walking.{walked, IsTold}
+use Rattle.walk.specs.Walking.{IsTold}
 use Rattle.whole.specs.Judged.{judged_places, IsJudged, IsParted}
 
 module _ (limits : Limits) (w : Width) (p : Bytes) where

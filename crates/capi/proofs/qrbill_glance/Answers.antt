@@ -1,7 +1,7 @@
 -- `capi::qrbill_glance` meets its contract: an account stands in the first 37 bytes. Assumes nothing.
 use native.Mathlib.Omega.{arith}
 use mathlib.Core.Path.{◌≡◌, sym, ◌∙◌}
-use Rattle.glance.specs.declared.Account.TheVariants.{Unknown, At}
+use Rattle.glance.specs.declared.Account.TheVariants.{At}
 use Rattle.glance.specs.Glance.{glance, account_as}
 use Rattle.glance.proofs.Promise.{stands_within}
 use Rattle.capi.proofs.qrbill_glance.Goals as goal

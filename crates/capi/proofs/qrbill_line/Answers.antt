@@ -1,8 +1,6 @@
 -- `capi::qrbill_line` meets its contract: the walk's list has the places of the lines. Assumes nothing.
-use mathlib.Core.Path.{sym, ◌∙◌}
-use lib.Dec.{lit≤}
+use mathlib.Core.Path.{◌∙◌}
 use Rattle.swiss.specs.Swiss.{swiss}
-use Rattle.whole.proofs.Judging.{judged_length}
 use Rattle.packing.proofs.Calls.{line_packed}
 use Rattle.swiss.proofs.Serves.{swiss_serves}
 use Rattle.capi.proofs.qrbill_line.Goals as goal

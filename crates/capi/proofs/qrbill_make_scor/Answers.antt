@@ -1,7 +1,7 @@
 -- `capi::qrbill_make_scor` meets its contract: what is answered packs. Assumes nothing.
 use native.Mathlib.Omega.{arith}
 use Rattle.making.proofs.Promise.{scor_length}
-use Rattle.capi.proofs.Made.{making_packs, made_packed}
+use Rattle.capi.proofs.Made.{making_packs}
 use Rattle.capi.proofs.qrbill_make_scor.Goals as goal
 
 pub packed_laying-requires : goal.packed_laying-requires

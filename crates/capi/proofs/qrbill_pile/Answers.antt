@@ -1,7 +1,5 @@
 -- `capi::qrbill_pile` meets its contract: what is answered packs. Assumes nothing.
-use mathlib.Core.Path.{refl}
 use Rattle.pile.proofs.Positions.{low_position}
-use Rattle.capi.proofs.Piled.{piled_packed}
 use Rattle.capi.proofs.qrbill_pile.Goals as goal
 
 pub packed_refusal-requires : goal.packed_refusal-requires

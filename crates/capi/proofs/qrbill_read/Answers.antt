@@ -1,6 +1,4 @@
 -- `capi::qrbill_read` meets its contract: every verdict swiss_serves. Assumes nothing.
-use mathlib.Core.Path.{ap, ◌∙◌}
-use Rattle.packing.specs.Packing.{packed}
 use Rattle.packing.proofs.Calls.{verdict_packs}
 use Rattle.swiss.proofs.Serves.{swiss_serves}
 use Rattle.capi.proofs.qrbill_read.Goals as goal

@@ -1,7 +1,6 @@
 -- `capi::qrbill_season` meets its contract: what is answered packs. Assumes nothing.
 use native.Mathlib.Omega.{arith}
 use mathlib.Core.Path.{refl}
-use lib.ListN.{length}
 use Rattle.season.proofs.Promise.{low_position, few_positions}
 use Rattle.capi.proofs.Season.{refused_packed, short_packed, listed_packed}
 use Rattle.capi.proofs.qrbill_season.Goals as goal

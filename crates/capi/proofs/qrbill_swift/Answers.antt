@@ -1,7 +1,6 @@
 -- `capi::qrbill_swift` meets its contract: what is answered packs. Assumes nothing.
 use native.Mathlib.Omega.{arith}
 use mathlib.Core.Path.{refl, ap, ◌∙◌}
-use lib.ListN.{length}
 use Rattle.swiss.specs.Swiss.{swiss}
 use Rattle.runs.specs.Laid.{over_fitting}
 use Rattle.capi.proofs.Swift.{low_line, few_told, refused_told, laid_told}

@@ -1,11 +1,6 @@
 -- `characters::accented` meets its contract. The invariant: the bytes passed, and those of the row that is left. Assumes nothing.
-use Prim.Native.Nat.{◌+◌, ◌-◌, ◌*◌, ◌≤◌}
 use native.Mathlib.Omega.{arith}
-use mathlib.Core.Path.{◌≡◌}
-use lib.ListN.{length, drop}
-use Rattle.characters.specs.Runs.{accents}
 use Rattle.characters.proofs.Accents.{one_accent, no_accent, too_few}
-use borrow.Author.Rules.{rules}
 use Rattle.characters.proofs.accented.Goals as goal
 
 pub returns-then-s-from : goal.returns-then-s-from

@@ -1,10 +1,7 @@
 use Prim.Native.Nat.{◌+◌, ◌-◌, ◌*◌, ◌≤◌}
-use native.Mathlib.Omega.{arith}
 use mathlib.Core.Path.{◌≡◌}
 use lib.ListN.{length, drop}
 use Rattle.characters.specs.Runs.{accents}
-use Rattle.characters.proofs.Accents.{one_accent, no_accent, too_few}
-use borrow.Author.Rules.{rules}
 use Rattle.characters.proofs.accented.Given as goal
 
 abbrev pub invariant-loop-at : goal.invariant-loop-at

@@ -1,12 +1,5 @@
 -- `characters::characters_in` meets its contract: each set has its own test. Assumes nothing.
-use Prim.Native.Nat.{◌*◌}
-use native.Mathlib.Omega.{arith}
-use mathlib.Core.Path.{◌≡◌}
-use lib.ListN.{drop}
-use borrow.Author.Tests.{eq-eqb, ne_eqb}
 use Rattle.sieve.specs.Iso8859.{iso8859}
-use Rattle.characters.specs.Runs.{accents}
-use borrow.Author.Rules.{rules}
 use Rattle.characters.proofs.characters_in.Goals as goal
 
 pub returns-then-in_iso : goal.returns-then-in_iso

@@ -1,12 +1,7 @@
 -- `characters::plain_run` meets its contract. The invariant: all bytes up to `i` are of the run. Assumes nothing.
-use Prim.Native.Nat.{◌+◌, ◌-◌}
 use native.Mathlib.Omega.{arith}
-use native.Mathlib.Nat.{zero-add}
-use mathlib.Core.Path.{◌≡◌, sym, ◌∙◌}
-use borrow.Author.Rules.{rules}
-use lib.ListN.{length, drop}
+use mathlib.Core.Path.{sym, ◌∙◌}
 use Rattle.sieve.specs.Latin.{in_one}
-use Rattle.characters.specs.Runs.{run}
 use Rattle.characters.proofs.Runs.{passed, stopped, ended}
 use Rattle.characters.proofs.plain_run.Goals as goal
 

@@ -1,12 +1,8 @@
 use Prim.Native.Nat.{◌+◌, ◌-◌}
-use native.Mathlib.Omega.{arith}
-use native.Mathlib.Nat.{zero-add}
-use mathlib.Core.Path.{◌≡◌, sym, ◌∙◌}
-use borrow.Author.Rules.{rules}
+use mathlib.Core.Path.{◌≡◌}
 use lib.ListN.{length, drop}
 use Rattle.sieve.specs.Latin.{in_one}
 use Rattle.characters.specs.Runs.{run}
-use Rattle.characters.proofs.Runs.{passed, stopped, ended}
 use Rattle.characters.proofs.plain_run.Given as goal
 
 abbrev pub invariant-loop-i : goal.invariant-loop-i

@@ -1,5 +1,4 @@
 -- `characters::width` meets its contract: its tests are those of `latin`, where a byte below C2 passes none but the first, and E2 none but the last. Assumes nothing.
-use borrow.Author.Rules.{rules}
 use mathlib.Core.Bool.{cond}
 use mathlib.Core.Path.{◌≡◌}
 use lib.ListN.{drop}

@@ -6,7 +6,6 @@ use Rattle.sieve.specs.Lines.{bill_of}
 use Rattle.sieve.proofs.Placing.{list_length}
 use Rattle.girocode.specs.Girocode.{girocode}
 use Rattle.runs.proofs.Lays.{laid_in_lem}
-use Rattle.whole.proofs.Judging.{judged_length}
 use Rattle.whole.proofs.Reading.{ends_refused, ends_short, ends_listed}
 use Rattle.giro_judge.proofs.Places.{all_shown}
 use Rattle.giro_reader.proofs.read.Goals as goal

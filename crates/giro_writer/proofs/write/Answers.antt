@@ -38,5 +38,5 @@ returns-in-Bytes c =
     let a = c.args in
     let joined = gathered_joined (goal.at.returns-in-Bytes c).In-Bytes in
     let judged : paper c.verdict-answer.result ≡ verdict girocode (bytes_of a.text.now a.places.now a.count a.brk) =
-        c.verdict-answer.ensures ∙ ap (verdict girocode) (laid_front (bytes_of a.text.now a.places.now a.count a.brk) _ _ _ joined.of_length.bytes_are c.lay_lines.ensures) in
+    c.verdict-answer.ensures ∙ ap (verdict girocode) (laid_front (bytes_of a.text.now a.places.now a.count a.brk) _ _ _ joined.of_length.bytes_are c.lay_lines.ensures) in
     settles girocode_serves joined c.verdict-answer.result judged c.settle.ensures.value c.settle.ensures.dest_after

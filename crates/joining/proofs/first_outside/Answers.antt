@@ -1,10 +1,8 @@
 -- `joining::first_outside` meets its contract: what was not found before is found among the places from here on. Assumes nothing.
-use Prim.Native.Nat.{◌+◌, ◌-◌, ◌*◌, ◌≤◌}
 use native.Mathlib.Omega.{arith}
-use mathlib.Core.Path.{◌≡◌, sym, ap, ◌∙◌}
-use borrow.Author.Rules.{rules}
-use Rattle.joining.specs.Handing.{outside_as, first_outside}
-use Rattle.joining.proofs.Handing.{outside_from, outside_first, outside_here, outside_later, outside_none}
+use mathlib.Core.Path.{sym, ap, ◌∙◌}
+use Rattle.joining.specs.Handing.{outside_as}
+use Rattle.joining.proofs.Handing.{outside_first, outside_here, outside_later, outside_none}
 use Rattle.joining.proofs.first_outside.Goals as goal
 
 pub loop-i-init : goal.loop-i-init

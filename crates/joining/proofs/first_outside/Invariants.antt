@@ -1,9 +1,7 @@
-use Prim.Native.Nat.{◌+◌, ◌-◌, ◌*◌, ◌≤◌}
-use native.Mathlib.Omega.{arith}
-use mathlib.Core.Path.{◌≡◌, sym, ap, ◌∙◌}
-use borrow.Author.Rules.{rules}
-use Rattle.joining.specs.Handing.{outside_as, first_outside}
-use Rattle.joining.proofs.Handing.{outside_from, outside_first, outside_here, outside_later, outside_none}
+use Prim.Native.Nat.{◌-◌, ◌≤◌}
+use mathlib.Core.Path.{◌≡◌}
+use Rattle.joining.specs.Handing.{first_outside}
+use Rattle.joining.proofs.Handing.{outside_from}
 use Rattle.joining.proofs.first_outside.Given as goal
 
 abbrev pub invariant-loop-i : goal.invariant-loop-i

@@ -1,6 +1,5 @@
 -- `joining::gather` meets its contract: the list, the count, the places and the bytes are asked about in their order. Assumes nothing.
 use mathlib.Core.Path.{sym, ◌∙◌}
-use borrow.Author.Rules.{rules}
 use borrow.Author.Tests.{lt-ltb, le-ltb}
 use Rattle.joining.specs.Handing.{gathered}
 use Rattle.joining.proofs.Handing.{lying_joined}

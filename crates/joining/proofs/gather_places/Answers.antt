@@ -1,7 +1,4 @@
 -- `joining::gather_places` meets its contract: the count and the places are asked about in their order. Assumes nothing.
-use native.Mathlib.Omega.{arith}
-use borrow.Author.Rules.{rules}
-use Rattle.sieve.proofs.Bounds.{is_within}
 use Rattle.joining.specs.Handing.{lying}
 use Rattle.joining.proofs.gather_places.Goals as goal
 

@@ -1,13 +1,12 @@
 -- `joining::joined_length` meets its contract: the length of what lies before, with a break after each line, is reckoned. Assumes nothing.
-use Prim.Native.Nat.{◌+◌, ◌-◌, ◌*◌, ◌≤◌}
+use Prim.Native.Nat.{◌+◌, ◌*◌, ◌≤◌}
 use native.Mathlib.Nat.{zero-add}
 use native.Mathlib.Omega.{arith}
 use mathlib.Core.Path.{◌≡◌, sym, ◌∙◌}
 use lib.ListN.{length}
-use borrow.Author.Rules.{rules}
 use Rattle.sieve.specs.Lines.{break_bytes}
 use Rattle.joining.specs.Handing.{line_at, bytes_of}
-use Rattle.joining.proofs.Handing.{still, latest, short, no_later, breaks_all, all_breaks, length_here, no_bytes_left}
+use Rattle.joining.proofs.Handing.{latest, no_later, all_breaks, length_here, no_bytes_left}
 use Rattle.joining.proofs.joined_length.Goals as goal
 use Rattle.joining.proofs.joined_length.Goals.{After-break_length, After-break_length-2}
 

@@ -1,12 +1,9 @@
-use Prim.Native.Nat.{◌+◌, ◌-◌, ◌*◌, ◌≤◌}
-use native.Mathlib.Nat.{zero-add}
-use native.Mathlib.Omega.{arith}
-use mathlib.Core.Path.{◌≡◌, sym, ◌∙◌}
+use Prim.Native.Nat.{◌+◌, ◌-◌, ◌≤◌}
+use mathlib.Core.Path.{◌≡◌}
 use lib.ListN.{length}
-use borrow.Author.Rules.{rules}
 use Rattle.sieve.specs.Lines.{break_bytes}
-use Rattle.joining.specs.Handing.{line_at, bytes_of}
-use Rattle.joining.proofs.Handing.{still, latest, short, no_later, breaks_all, all_breaks, length_here, no_bytes_left}
+use Rattle.joining.specs.Handing.{bytes_of}
+use Rattle.joining.proofs.Handing.{still, latest, breaks_all}
 use Rattle.joining.proofs.joined_length.Given as goal
 
 abbrev pub invariant-loop-i : goal.invariant-loop-i

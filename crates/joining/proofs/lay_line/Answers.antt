@@ -1,13 +1,12 @@
 -- `joining::lay_line` meets its contract: the line is laid, byte by byte, and then the bytes of the break. Assumes nothing.
-use Prim.Native.Nat.{◌+◌, ◌-◌, ◌≤◌, ◌<◌}
+use Prim.Native.Nat.{◌+◌, ◌≤◌, ◌<◌}
 use native.Mathlib.Omega.{arith}
 use mathlib.Core.List.{◌++◌}
 use mathlib.Core.Path.{◌≡◌, ap}
-use lib.ListN.{length, length-set, length-append}
-use borrow.Author.Rules.{rules}
+use lib.ListN.{length, length-append}
 use Rattle.sieve.specs.declared.Break.TheVariants.{Lf, CrLf}
 use Rattle.sieve.specs.Lines.{break_bytes}
-use Rattle.runs.proofs.Lays.{Laying, none_laid, one_laid}
+use Rattle.runs.proofs.Lays.{one_laid}
 use Rattle.joining.specs.Handing.{with_break}
 use Rattle.joining.proofs.Laying.{line_within, Front, whole, byte_more, two_more}
 use Rattle.joining.proofs.lay_line.Goals as goal

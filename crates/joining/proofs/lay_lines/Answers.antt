@@ -1,15 +1,12 @@
 -- `joining::lay_lines` meets its contract: the front of the destination holds what is laid of the joined bytes, and the rest is still to come. Assumes nothing.
-use Prim.Native.Nat.{◌+◌, ◌-◌, ◌≤◌}
+use Prim.Native.Nat.{◌+◌}
 use native.Mathlib.Omega.{arith}
 use mathlib.Core.List.{[]}
-use mathlib.Core.Path.{◌≡◌, sym, ap, ◌∙◌}
+use mathlib.Core.Path.{◌≡◌, ap, ◌∙◌}
 use lib.ListN.{length, drop, length-drop}
-use borrow.Author.Rules.{rules}
-use borrow.Rule.Slice.PartMut.{put_mid}
 use Rattle.sieve.specs.Lines.{joined}
-use Rattle.runs.proofs.Lays.{Laying, none_laid}
 use Rattle.joining.specs.Handing.{bytes_of, with_break}
-use Rattle.joining.proofs.Handing.{still, from_start, no_line, joined_next}
+use Rattle.joining.proofs.Handing.{still, no_line, joined_next}
 use Rattle.joining.proofs.Laying.{whole, Ahead, in_tail, laid_behind}
 use Rattle.joining.proofs.lay_lines.Goals as goal
 use Rattle.joining.proofs.lay_lines.Goals.{After-after_line}

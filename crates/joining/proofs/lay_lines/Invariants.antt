@@ -1,15 +1,10 @@
-use Prim.Native.Nat.{◌+◌, ◌-◌, ◌≤◌}
-use native.Mathlib.Omega.{arith}
-use mathlib.Core.List.{[]}
-use mathlib.Core.Path.{◌≡◌, sym, ap, ◌∙◌}
-use lib.ListN.{length, drop, length-drop}
-use borrow.Author.Rules.{rules}
-use borrow.Rule.Slice.PartMut.{put_mid}
+use Prim.Native.Nat.{◌-◌, ◌≤◌}
+use mathlib.Core.Path.{◌≡◌}
+use lib.ListN.{drop}
 use Rattle.sieve.specs.Lines.{joined}
-use Rattle.runs.proofs.Lays.{Laying, none_laid}
-use Rattle.joining.specs.Handing.{bytes_of, with_break}
-use Rattle.joining.proofs.Handing.{still, from_start, no_line, joined_next}
-use Rattle.joining.proofs.Laying.{whole, Ahead, in_tail, laid_behind}
+use Rattle.runs.proofs.Lays.{Laying}
+use Rattle.joining.specs.Handing.{bytes_of}
+use Rattle.joining.proofs.Handing.{still}
 use Rattle.joining.proofs.lay_lines.Given as goal
 
 abbrev pub invariant-loop-i : goal.invariant-loop-i

@@ -1,11 +1,8 @@
 -- `lines::line_at` meets its contract. The invariant: the line that starts at `from` ends where one that started at `at` would. Assumes nothing.
-use Prim.Native.Nat.{ℕ, ◌+◌, ◌-◌}
+use Prim.Native.Nat.{ℕ, ◌+◌}
 use native.Mathlib.Omega.{arith}
-use mathlib.Core.Logic.{⊎_elim}
-use mathlib.Core.Path.{◌≡◌, refl, sym, ◌∙◌, ap}
-use borrow.Author.Rules.{rules}
-use lib.ListN.{length, drop, length-drop}
-use Rattle.sieve.specs.Lines.{cut}
+use mathlib.Core.Path.{◌≡◌, sym, ◌∙◌, ap}
+use lib.ListN.{drop, length-drop}
 use Rattle.sieve.specs.Characters.{break_width}
 use Rattle.lines.proofs.Fronts.{break_fits}
 use Rattle.lines.proofs.FirstLine.{no_break, goes_on, stops, ends}

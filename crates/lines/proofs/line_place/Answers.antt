@@ -2,7 +2,6 @@
 use Prim.Native.Nat.{suc, ◌-◌}
 use native.Mathlib.Omega.{arith}
 use mathlib.Core.Path.{◌≡◌, refl, ◌∙◌}
-use borrow.Author.Rules.{rules}
 use lib.ListN.{get_or}
 use Rattle.lines.specs.LinesIn.{lines_in, lines_at, line_of}
 use Rattle.lines.proofs.LinesLie.{absent, this_line, past_last, after_this}

@@ -1,10 +1,8 @@
-use Prim.Native.Nat.{suc, ◌-◌}
-use native.Mathlib.Omega.{arith}
-use mathlib.Core.Path.{◌≡◌, refl, ◌∙◌}
-use borrow.Author.Rules.{rules}
+use Prim.Native.Nat.{◌-◌}
+use mathlib.Core.Path.{◌≡◌}
 use lib.ListN.{get_or}
-use Rattle.lines.specs.LinesIn.{lines_in, lines_at, line_of}
-use Rattle.lines.proofs.LinesLie.{absent, this_line, past_last, after_this}
+use Rattle.lines.specs.LinesIn.{lines_at, line_of}
+use Rattle.lines.proofs.LinesLie.{absent}
 use Rattle.lines.proofs.line_place.Given as goal
 
 abbrev pub invariant-loop-left : goal.invariant-loop-left

@@ -1,14 +1,10 @@
 -- `lines::parts` meets its contract. The invariant: the breaks that were passed, and those that are left. Assumes nothing.
-use Prim.Native.Nat.{◌+◌, ◌-◌, ◌≤◌, ◌<◌}
+use Prim.Native.Nat.{◌-◌, ◌≤◌, ◌<◌}
 use native.Mathlib.Omega.{arith}
 use mathlib.Core.Path.{◌≡◌, refl, sym, ap, ◌∙◌}
-use lib.ListN.{length, drop}
-use Rattle.sieve.specs.Lines.{cut, breaks_of}
 use Rattle.lines.proofs.LinesAt.{within}
-use Rattle.lines.specs.Parted.{breaks_in}
 use Rattle.lines.proofs.Parting.{from_first, unbroken, broken}
 use Rattle.lines.proofs.Holding.{held_from, Wide, one_held, all_held, still_wide}
-use borrow.Author.Rules.{rules}
 use Rattle.lines.proofs.parts.Goals as goal
 use Rattle.lines.proofs.parts.Goals.{After-line_at-line}
 

@@ -1,13 +1,9 @@
-use Prim.Native.Nat.{◌+◌, ◌-◌, ◌≤◌, ◌<◌}
-use native.Mathlib.Omega.{arith}
-use mathlib.Core.Path.{◌≡◌, refl, sym, ap, ◌∙◌}
+use Prim.Native.Nat.{◌+◌, ◌-◌, ◌≤◌}
+use mathlib.Core.Path.{◌≡◌}
 use lib.ListN.{length, drop}
 use Rattle.sieve.specs.Lines.{cut, breaks_of}
-use Rattle.lines.proofs.LinesAt.{within}
 use Rattle.lines.specs.Parted.{breaks_in}
-use Rattle.lines.proofs.Parting.{from_first, unbroken, broken}
-use Rattle.lines.proofs.Holding.{held_from, Wide, one_held, all_held, still_wide}
-use borrow.Author.Rules.{rules}
+use Rattle.lines.proofs.Holding.{held_from, Wide}
 use Rattle.lines.proofs.parts.Given as goal
 
 abbrev pub invariant-loop-breaks : goal.invariant-loop-breaks

@@ -1,10 +1,7 @@
 -- `lines::stray_break` meets its contract. The invariant: the bytes that are left decide. Assumes nothing.
-use Prim.Native.Nat.{◌-◌}
 use mathlib.Core.Bool.{false}
-use mathlib.Core.Logic.{⊎_elim}
-use mathlib.Core.Path.{◌≡◌, refl, sym, ap, ◌∙◌}
-use borrow.Author.Rules.{rules}
-use lib.ListN.{length, get_or, drop, drop_of_length-le}
+use mathlib.Core.Path.{◌≡◌, sym, ap, ◌∙◌}
+use lib.ListN.{get_or, drop_of_length-le}
 use Rattle.sieve.specs.Bytes.{first_such}
 use Rattle.lines.specs.Results.{stray_as}
 use Rattle.sieve.specs.Lines.{of_break}

@@ -1,13 +1,8 @@
 use Prim.Native.Nat.{◌-◌}
-use mathlib.Core.Bool.{false}
-use mathlib.Core.Logic.{⊎_elim}
-use mathlib.Core.Path.{◌≡◌, refl, sym, ap, ◌∙◌}
-use borrow.Author.Rules.{rules}
-use lib.ListN.{length, get_or, drop, drop_of_length-le}
+use mathlib.Core.Path.{◌≡◌}
+use lib.ListN.{length, drop}
 use Rattle.sieve.specs.Bytes.{first_such}
-use Rattle.lines.specs.Results.{stray_as}
 use Rattle.sieve.specs.Lines.{of_break}
-use Rattle.lines.proofs.ByteByByte.{such_here, such_later, above_breaks}
 use Rattle.lines.proofs.stray_break.Given as goal
 
 abbrev pub invariant-loop-i : goal.invariant-loop-i

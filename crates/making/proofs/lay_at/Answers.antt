@@ -1,5 +1,4 @@
 -- `making::lay_at` meets its contract: the part is laid in the front of the tail that is lent. Assumes nothing.
-use borrow.Author.Rules.{rules}
 use Rattle.runs.proofs.Lays.{tail_laid}
 use Rattle.making.proofs.lay_at.Goals as goal
 

@@ -1,12 +1,10 @@
 -- `making::lay_with_pair` meets its contract: part behind part, and the pair put in the place of 00. Assumes nothing.
 use Prim.Native.Nat.{◌+◌}
-use native.Mathlib.Nat.{sub-zero}
 use native.Mathlib.Omega.{arith}
 use mathlib.Core.List.{◌++◌, append_assoc}
 use mathlib.Core.Path.{◌≡◌, ap, ◌∙◌}
 use lib.ListN.{length, take, length-append}
-use lib.Seq.{take_all, take-append_seam}
-use borrow.Author.Rules.{rules}
+use lib.Seq.{take_all}
 use Rattle.sieve.specs.Bytes.{Bytes, ascii, over}
 use Rattle.making.specs.Made.{laid_at, with_pair_set}
 use Rattle.making.proofs.Laid.{laid_first, laid_behind, pair_due, paired_in_front}

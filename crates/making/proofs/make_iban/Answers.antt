@@ -1,7 +1,6 @@
 -- `making::make_iban` meets its contract: parts of their form are few enough, and others make nothing. Assumes nothing.
 use native.Mathlib.Omega.{arith}
 use mathlib.Core.Path.{sym, ◌∙◌}
-use borrow.Author.Rules.{rules}
 use Rattle.sieve.specs.Letters.{digit, digit_or_capital}
 use Rattle.swiss.specs.Forms.{iban_country}
 use Rattle.making.specs.Made.{iban_iid, iban_account}

@@ -8,7 +8,6 @@ use Rattle.sieve.specs.Bytes.{Bytes}
 use Rattle.sieve.specs.Pairs.{due_pair}
 use Rattle.making.specs.Made.{with_pair}
 use Rattle.making.proofs.Promise.{no_room, is_laid}
-use borrow.Author.Rules.{rules}
 use Rattle.making.proofs.make_with_pair.Goals as goal
 
 -- how many bytes a head, a pair and a rest of two parts are

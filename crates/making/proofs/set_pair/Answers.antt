@@ -1,8 +1,6 @@
 -- `making::set_pair` meets its contract: the two digits of 98 less the remainder. Assumes nothing.
 use native.Mathlib.Omega.{arith}
-use borrow.Author.Rules.{rules}
 use Rattle.sieve.specs.Mod97.{remainder97}
-use Rattle.making.proofs.Laid.{two_stored}
 use Rattle.making.proofs.set_pair.Goals as goal
 
 pub overflow_sub-pair : goal.overflow_sub-pair

@@ -1,8 +1,5 @@
 -- `mod10::check_digit` meets its contract, byte by byte. Assumes nothing.
-use Prim.Native.Nat.{◌-◌}
-use lib.ListN.{length}
-use borrow.Author.Rules.{rules}
-use Rattle.mod10.proofs.Carries.{Carried, none_carried, one_carried, all_carried}
+use Rattle.mod10.proofs.Carries.{one_carried, all_carried}
 use Rattle.mod10.proofs.check_digit.Goals as goal
 
 pub loop-i-preserved : goal.loop-i-preserved

@@ -1,10 +1,5 @@
 -- `mod10::check_digit_of_digits` meets its contract, digit by digit. Assumes nothing.
-use Prim.Native.Nat.{◌-◌}
-use lib.ListN.{length}
-use borrow.Author.Rules.{rules}
-use Rattle.sieve.specs.Letters.{digit}
-use Rattle.sieve.proofs.EachPlace.{each_place}
-use Rattle.mod10.proofs.Carries.{Carried, none_carried, one_carried, all_carried}
+use Rattle.mod10.proofs.Carries.{one_carried, all_carried}
 use Rattle.mod10.proofs.check_digit_of_digits.Goals as goal
 
 pub loop-i-preserved : goal.loop-i-preserved

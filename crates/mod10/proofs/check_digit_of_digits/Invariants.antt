@@ -1,9 +1,6 @@
 use Prim.Native.Nat.{◌-◌}
 use lib.ListN.{length}
-use borrow.Author.Rules.{rules}
-use Rattle.sieve.specs.Letters.{digit}
-use Rattle.sieve.proofs.EachPlace.{each_place}
-use Rattle.mod10.proofs.Carries.{Carried, none_carried, one_carried, all_carried}
+use Rattle.mod10.proofs.Carries.{Carried}
 use Rattle.mod10.proofs.check_digit_of_digits.Given as goal
 
 abbrev pub invariant-loop-i : goal.invariant-loop-i

@@ -2,7 +2,6 @@
 use Prim.Native.Nat.{◌+◌, ◌-◌, ◌%◌}
 use native.Mathlib.Omega.{arith}
 use lib.ListN.{get_or-append}
-use borrow.Author.Rules.{rules}
 use Rattle.sieve.specs.Mod10.{next_carry}
 use Rattle.mod10.proofs.Carries.{twice}
 use Rattle.mod10.proofs.next_carry.Goals as goal

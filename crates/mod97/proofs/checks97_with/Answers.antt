@@ -1,12 +1,7 @@
 -- `mod97::checks97_with` meets its contract: the first four characters are read behind the remainder of what follows them. Assumes nothing.
 use Prim.Native.Nat.{◌^◌, ◌<◌}
 use native.Mathlib.Omega.{arith}
-use mathlib.Core.Bool.{true}
-use mathlib.Core.Path.{◌≡◌}
-use lib.ListN.{get_or}
-use borrow.Author.Rules.{rules}
-use Rattle.sieve.specs.Letters.{digit}
-use Rattle.mod97.proofs.FirstFour.{has_four, pair_digits, head_small, checks_with}
+use Rattle.mod97.proofs.FirstFour.{has_four, head_small, checks_with}
 use Rattle.mod97.proofs.checks97_with.Goals as goal
 use Rattle.mod97.proofs.checks97_with.Goals.{After-wide_digit-2}
 

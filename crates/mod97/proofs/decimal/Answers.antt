@@ -1,9 +1,6 @@
 -- `mod97::decimal` meets its contract. The invariant: the digits so far make the number so far, and those left are digits. Assumes nothing.
-use Prim.Native.Nat.{◌-◌}
 use native.Mathlib.Omega.{arith}
-use lib.ListN.{length}
-use borrow.Author.Rules.{rules}
-use Rattle.mod97.proofs.Readings.{Reading, none_read, room, next, one_read, all_read}
+use Rattle.mod97.proofs.Readings.{room, one_read, all_read}
 use Rattle.mod97.proofs.decimal.Goals as goal
 
 pub overflow_mul-n : goal.overflow_mul-n

@@ -1,10 +1,5 @@
 -- `mod97::pair_number` meets its contract: the third and the fourth character, read one after the other. Assumes nothing.
-use Prim.Native.Nat.{ℕ, ◌^◌, ◌<◌}
-use native.Mathlib.Omega.{arith}
 use mathlib.Core.Path.{◌∙◌}
-use borrow.Author.Rules.{rules}
-use Rattle.sieve.specs.Mod97.{value}
-use Rattle.mod97.proofs.Values.{value_small}
 use Rattle.mod97.proofs.FirstFour.{has_four, pair_read}
 use Rattle.mod97.proofs.pair_number.Goals as goal
 

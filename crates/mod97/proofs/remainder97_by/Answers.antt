@@ -1,6 +1,5 @@
 -- `mod97::remainder97_by` meets its contract: the text from its fifth character on is read, and after it the first four. Assumes nothing.
 use mathlib.Core.Path.{◌∙◌}
-use borrow.Author.Rules.{rules}
 use Rattle.mod97.proofs.Moved.{unmoved, moved}
 use Rattle.mod97.proofs.remainder97_by.Goals as goal
 

@@ -1,10 +1,5 @@
 -- `mod97::remainder_after` meets its contract. The invariant: what is left, after the number so far, leaves the same remainder. Assumes nothing.
-use Prim.Native.Nat.{◌-◌, ◌%◌, ◌≤◌}
 use native.Mathlib.Omega.{arith}
-use mathlib.Core.Path.{◌≡◌}
-use lib.ListN.{length, drop}
-use borrow.Author.Rules.{rules}
-use Rattle.sieve.specs.Mod97.{numeral}
 use Rattle.mod97.proofs.Remainders.{carried, one_read, none_left}
 use Rattle.mod97.proofs.remainder_after.Goals as goal
 

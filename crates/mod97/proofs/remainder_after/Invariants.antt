@@ -1,10 +1,7 @@
 use Prim.Native.Nat.{◌-◌, ◌%◌, ◌≤◌}
-use native.Mathlib.Omega.{arith}
 use mathlib.Core.Path.{◌≡◌}
 use lib.ListN.{length, drop}
-use borrow.Author.Rules.{rules}
 use Rattle.sieve.specs.Mod97.{numeral}
-use Rattle.mod97.proofs.Remainders.{carried, one_read, none_left}
 use Rattle.mod97.proofs.remainder_after.Given as goal
 
 abbrev pub invariant-loop-i : goal.invariant-loop-i

@@ -1,6 +1,5 @@
 -- `mod97::remainder_after_by_table` meets its contract: only the remainder of what stands before counts. Assumes nothing.
 use mathlib.Core.Path.{sym, ◌∙◌}
-use borrow.Author.Rules.{rules}
 use Rattle.mod97.proofs.Remainders.{carried}
 use Rattle.mod97.proofs.remainder_after_by_table.Goals as goal
 

@@ -1,7 +1,6 @@
 -- `mod97::run` meets its contract: an odd text is a character and an even text. Assumes nothing.
 use native.Mathlib.Omega.{arith}
 use mathlib.Core.Path.{◌∙◌}
-use borrow.Author.Rules.{rules}
 use Rattle.mod97.proofs.Remainders.{first_turn}
 use Rattle.mod97.proofs.run.Goals as goal
 

@@ -1,10 +1,5 @@
 -- `mod97::run_by_two` meets its contract. The invariant: i is even, and what is left, after the remainder so far, leaves the same remainder. Assumes nothing.
-use Prim.Native.Nat.{◌-◌, ◌%◌, ◌≤◌, ◌<◌}
 use native.Mathlib.Omega.{arith}
-use mathlib.Core.Path.{◌≡◌, refl}
-use lib.ListN.{length, drop}
-use borrow.Author.Rules.{rules}
-use Rattle.sieve.specs.Mod97.{numeral}
 use Rattle.mod97.proofs.Remainders.{two_turns, no_turn}
 use Rattle.mod97.proofs.run_by_two.Goals as goal
 

@@ -1,10 +1,7 @@
 use Prim.Native.Nat.{◌-◌, ◌%◌, ◌≤◌, ◌<◌}
-use native.Mathlib.Omega.{arith}
-use mathlib.Core.Path.{◌≡◌, refl}
+use mathlib.Core.Path.{◌≡◌}
 use lib.ListN.{length, drop}
-use borrow.Author.Rules.{rules}
 use Rattle.sieve.specs.Mod97.{numeral}
-use Rattle.mod97.proofs.Remainders.{two_turns, no_turn}
 use Rattle.mod97.proofs.run_by_two.Given as goal
 
 abbrev pub invariant-loop-i : goal.invariant-loop-i

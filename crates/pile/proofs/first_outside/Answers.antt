@@ -1,10 +1,9 @@
 -- `pile::first_outside` meets its contract: what was not found before is found among the places from here on. Assumes nothing.
-use Prim.Native.Nat.{ℕ, ◌+◌, ◌-◌, ◌*◌, ◌≤◌}
+use Prim.Native.Nat.{ℕ}
 use native.Mathlib.Omega.{arith}
 use mathlib.Core.Option.{Option, get_or}
-use mathlib.Core.Path.{◌≡◌, sym, ap, ◌∙◌}
-use Rattle.joining.specs.Handing.{first_outside}
-use Rattle.joining.proofs.Handing.{outside_from, outside_first, outside_here, outside_later, outside_none}
+use mathlib.Core.Path.{sym, ap, ◌∙◌}
+use Rattle.joining.proofs.Handing.{outside_first, outside_here, outside_later, outside_none}
 use Rattle.pile.proofs.first_outside.Goals as goal
 
 pub loop-i-init : goal.loop-i-init

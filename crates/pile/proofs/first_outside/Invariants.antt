@@ -1,9 +1,7 @@
-use Prim.Native.Nat.{ℕ, ◌+◌, ◌-◌, ◌*◌, ◌≤◌}
-use native.Mathlib.Omega.{arith}
-use mathlib.Core.Option.{Option, get_or}
-use mathlib.Core.Path.{◌≡◌, sym, ap, ◌∙◌}
+use Prim.Native.Nat.{◌-◌, ◌≤◌}
+use mathlib.Core.Path.{◌≡◌}
 use Rattle.joining.specs.Handing.{first_outside}
-use Rattle.joining.proofs.Handing.{outside_from, outside_first, outside_here, outside_later, outside_none}
+use Rattle.joining.proofs.Handing.{outside_from}
 use Rattle.pile.proofs.first_outside.Given as goal
 
 abbrev pub invariant-loop-i : goal.invariant-loop-i

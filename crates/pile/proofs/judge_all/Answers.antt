@@ -1,12 +1,9 @@
 -- `pile::judge_all` meets its contract: entry is laid behind entry. Assumes nothing.
-use Prim.Native.Nat.{◌+◌, ◌-◌, ◌*◌, ◌≤◌}
+use Prim.Native.Nat.{◌+◌, ◌-◌}
 use native.Mathlib.Omega.{arith}
 use mathlib.Core.Path.{◌≡◌}
-use lib.ListN.{length-take, length-drop}
-use Rattle.runs.proofs.Lays.{Laying, none_laid}
-use Rattle.joining.specs.Handing.{span_at, Within}
+use Rattle.joining.specs.Handing.{span_at}
 use Rattle.joining.proofs.Laying.{whole}
-use Rattle.pile.specs.Pile.{pile_numbers}
 use Rattle.pile.proofs.Entries.{entries_length, entry_laid}
 use Rattle.pile.proofs.judge_all.Goals as goal
 

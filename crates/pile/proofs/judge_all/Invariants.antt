@@ -1,12 +1,6 @@
-use Prim.Native.Nat.{◌+◌, ◌-◌, ◌*◌, ◌≤◌}
-use native.Mathlib.Omega.{arith}
-use mathlib.Core.Path.{◌≡◌}
-use lib.ListN.{length-take, length-drop}
-use Rattle.runs.proofs.Lays.{Laying, none_laid}
-use Rattle.joining.specs.Handing.{span_at, Within}
-use Rattle.joining.proofs.Laying.{whole}
+use Prim.Native.Nat.{◌-◌, ◌*◌, ◌≤◌}
+use Rattle.runs.proofs.Lays.{Laying}
 use Rattle.pile.specs.Pile.{pile_numbers}
-use Rattle.pile.proofs.Entries.{entries_length, entry_laid}
 use Rattle.pile.proofs.judge_all.Given as goal
 
 abbrev pub invariant-loop-i : goal.invariant-loop-i

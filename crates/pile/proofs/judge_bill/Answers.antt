@@ -1,6 +1,4 @@
 -- `pile::judge_bill` meets its contract: the entry of the verdict on a bill. Assumes nothing.
-use mathlib.Core.Path.{ap, ◌∙◌}
-use Rattle.pile.specs.Pile.{bill_numbers}
 use Rattle.pile.proofs.Entries.{small_entry}
 use Rattle.pile.proofs.judge_bill.Goals as goal
 

@@ -1,7 +1,5 @@
 -- `places::line` meets its contract: the list says where the line lies. Assumes nothing.
 use Prim.Native.Nat.{◌-◌, ◌*◌}
-use native.Mathlib.Omega.{arith}
-use borrow.Author.Rules.{rules}
 use lib.ListN.{get_or}
 use Rattle.places.proofs.Listed.{LineAtPlace, listed_line, part_is_line}
 use Rattle.places.proofs.line.Goals as goal

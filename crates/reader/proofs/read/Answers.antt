@@ -1,15 +1,13 @@
 -- `reader::read` meets its contract: what the verdict says of the payload leaves one way for the reading to end. Assumes nothing.
 use Prim.Native.Nat.{◌<◌}
 use native.Mathlib.Omega.{arith}
-use mathlib.Core.Path.{refl, sym}
+use mathlib.Core.Path.{refl}
 use lib.ListN.{length}
 use Rattle.sieve.specs.Lines.{bill_of}
 use Rattle.sieve.proofs.Placing.{list_length}
 use Rattle.swiss.specs.Swiss.{swiss_in}
-use Rattle.whole.proofs.Judging.{judged_length}
 use Rattle.whole.proofs.Reading.{ends_refused, ends_short, ends_listed}
 use Rattle.reader.proofs.Shown.{inside, shown}
-use borrow.Author.Rules.{rules}
 use Rattle.reader.proofs.read.Goals as goal
 
 pub returns-then-list-lt-LIST_SIZE : goal.returns-then-list-lt-LIST_SIZE

@@ -21,4 +21,4 @@ returns-clause-value c = omega (arith, laid_whole (goal.at.returns-clause-value 
 
 pub returns-clause-line_after : goal.returns-clause-line_after
 returns-clause-line_after c = rw (laid_whole (goal.at.returns-clause-line_after c).After-slice_known-2-1, c.lay.ensures.dest_after, tail_laid c.args.at c.args.line.now c.args.text.now c.requires)
-          (added_in_front c.args.at c.args.line.now c.args.text.now (drop (c.args.at + length c.args.text.now) c.args.line.now) (omega (arith, c.requires)))
+    (added_in_front c.args.at c.args.line.now c.args.text.now (drop (c.args.at + length c.args.text.now) c.args.line.now) (omega (arith, c.requires)))

@@ -1,12 +1,8 @@
 -- `report::lay_answer` meets its contract: the line is composed in a buffer of its own, and then laid. Assumes nothing.
 use Prim.Native.Nat.{◌-◌}
-use native.Mathlib.Nat.{sub-zero}
 use native.Mathlib.Omega.{arith}
-use mathlib.Core.Path.{◌≡◌, refl}
 use lib.ListN.{take}
-use Rattle.sieve.specs.Paper.{paper}
 use Rattle.runs.proofs.Lays.{room_fits}
-use Rattle.report.specs.Spoken.{spoken}
 use Rattle.report.proofs.lay_answer.Goals as goal
 
 pub returns-clause-upper_bound : goal.returns-clause-upper_bound

@@ -1,12 +1,6 @@
-use Prim.Native.Nat.{◌+◌, ◌-◌}
-use native.Mathlib.Omega.{arith}
-use mathlib.Core.Bool.{true, false}
-use mathlib.Core.Logic.{⊎_elim}
-use mathlib.Core.Path.{◌≡◌, ap}
-use lib.ListN.{length, drop_of_length-le}
-use borrow.Author.Rules.{rules}
-use Rattle.sieve.specs.Characters.{characters}
-use Rattle.runs.proofs.Counts.{Counting, none_counted, byte_counted}
+use Prim.Native.Nat.{◌-◌}
+use lib.ListN.{length}
+use Rattle.runs.proofs.Counts.{Counting}
 use Rattle.runs.proofs.begun.Given as goal
 
 abbrev pub invariant-loop-i : goal.invariant-loop-i

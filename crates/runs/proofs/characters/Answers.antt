@@ -2,10 +2,8 @@
 use Prim.Native.Nat.{◌+◌, ◌-◌}
 use native.Mathlib.Omega.{arith}
 use mathlib.Core.Path.{◌≡◌}
-use lib.ListN.{length, drop, length-take, length-drop}
-use borrow.Author.Rules.{rules}
 use Rattle.sieve.specs.Characters.{characters}
-use Rattle.runs.proofs.Counts.{characters_few, Counting, none_counted, part_counted}
+use Rattle.runs.proofs.Counts.{Counting, part_counted}
 use Rattle.runs.proofs.Parts.{rest}
 use Rattle.runs.proofs.characters.Goals as goal
 use Rattle.runs.proofs.characters.Goals.{After-begun, After-begun-2}

@@ -1,11 +1,6 @@
-use Prim.Native.Nat.{◌+◌, ◌-◌}
-use native.Mathlib.Omega.{arith}
-use mathlib.Core.Path.{◌≡◌}
-use lib.ListN.{length, drop, length-take, length-drop}
-use borrow.Author.Rules.{rules}
-use Rattle.sieve.specs.Characters.{characters}
-use Rattle.runs.proofs.Counts.{characters_few, Counting, none_counted, part_counted}
-use Rattle.runs.proofs.Parts.{rest}
+use Prim.Native.Nat.{◌-◌}
+use lib.ListN.{length}
+use Rattle.runs.proofs.Counts.{Counting}
 use Rattle.runs.proofs.characters.Given as goal
 
 abbrev pub invariant-loop-at : goal.invariant-loop-at

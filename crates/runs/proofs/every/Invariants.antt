@@ -1,11 +1,9 @@
 use Prim.Native.Nat.{◌-◌}
-use mathlib.Core.Bool.{◌&&◌, and-true}
-use mathlib.Core.Path.{◌≡◌, refl, sym, ◌∙◌}
-use borrow.Author.Rules.{rules}
-use lib.ListN.{length, drop, drop_of_length-le}
+use mathlib.Core.Bool.{◌&&◌}
+use mathlib.Core.Path.{◌≡◌}
+use lib.ListN.{length, drop}
 use Rattle.sieve.specs.Bytes.{every}
 use Rattle.runs.specs.CharacterKinds.{of_kind}
-use Rattle.runs.proofs.ByteByByte.{asked}
 use Rattle.runs.proofs.every.Given as goal
 
 abbrev pub invariant-loop-i : goal.invariant-loop-i

@@ -1,8 +1,5 @@
 -- `runs::fill` meets its contract, number by number. Assumes nothing.
-use Prim.Native.Nat.{◌-◌}
-use lib.ListN.{length}
-use borrow.Author.Rules.{rules}
-use Rattle.runs.proofs.Lays.{Laying, none_laid, one_laid, no_room, all_laid}
+use Rattle.runs.proofs.Lays.{one_laid, no_room, all_laid}
 use Rattle.runs.proofs.fill.Goals as goal
 
 pub returns-then-list-numbers-clause-value : goal.returns-then-list-numbers-clause-value

@@ -1,7 +1,6 @@
 use Prim.Native.Nat.{◌-◌}
 use lib.ListN.{length}
-use borrow.Author.Rules.{rules}
-use Rattle.runs.proofs.Lays.{Laying, none_laid, one_laid, no_room, all_laid}
+use Rattle.runs.proofs.Lays.{Laying}
 use Rattle.runs.proofs.fill.Given as goal
 
 abbrev pub invariant-loop-i : goal.invariant-loop-i

@@ -1,7 +1,6 @@
 -- `runs::longer` meets its contract: bytes that are not too many hold no more characters. Assumes nothing.
 use native.Mathlib.Omega.{arith}
 use mathlib.Core.Path.{sym}
-use borrow.Author.Rules.{rules}
 use borrow.Author.Tests.{le-ltb}
 use Rattle.sieve.specs.Characters.{characters}
 use Rattle.runs.proofs.Counts.{characters_few}

@@ -1,13 +1,7 @@
-use Prim.Native.Nat.{◌+◌, ◌-◌}
-use native.Mathlib.Omega.{arith}
-use mathlib.Core.Bool.{◌&&◌}
-use mathlib.Core.Path.{◌≡◌, refl, sym, ◌∙◌}
-use borrow.Author.Rules.{rules}
-use borrow.Author.Tests.{eq-eqb, ne_eqb}
-use lib.Dec.{eqb}
-use lib.ListN.{length, get_or, drop}
+use Prim.Native.Nat.{◌-◌}
+use mathlib.Core.Path.{◌≡◌}
+use lib.ListN.{length, drop}
 use Rattle.sieve.specs.Bytes.{same}
-use Rattle.runs.proofs.ByteByByte.{same_length, same_next, same_end}
 use Rattle.runs.proofs.same.Given as goal
 
 abbrev pub invariant-loop-i : goal.invariant-loop-i

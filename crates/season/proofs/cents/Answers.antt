@@ -3,9 +3,8 @@ use Prim.Native.Nat.{◌-◌}
 use native.Mathlib.Nat.{sub-zero}
 use native.Mathlib.Omega.{arith}
 use mathlib.Core.Path.{◌≡◌, sym}
-use lib.ListN.{length, take, drop, length-drop}
+use lib.ListN.{length, take, drop}
 use lib.Seq.{length-take-le}
-use Rattle.sieve.specs.Bytes.{Bytes}
 use Rattle.sieve.specs.Mod97.{numeral}
 use Rattle.swiss.proofs.Amounts.{Due}
 use Rattle.runs.proofs.Parts.{rest}

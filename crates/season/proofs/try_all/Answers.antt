@@ -1,10 +1,10 @@
 -- `season::try_all` meets its contract: bill after bill, what is listed and summed so far. Assumes nothing.
-use Prim.Native.Nat.{◌+◌, ◌-◌, ◌*◌, ◌≤◌}
+use Prim.Native.Nat.{◌+◌, ◌-◌}
 use native.Mathlib.Omega.{arith}
 use mathlib.Core.Path.{◌≡◌}
-use Rattle.joining.specs.Handing.{span_at, Within}
+use Rattle.joining.specs.Handing.{span_at}
 use Rattle.season.proofs.Paying.{outcome_most}
-use Rattle.season.proofs.Trying.{Trying, none_tried, one_tried, all_tried}
+use Rattle.season.proofs.Trying.{one_tried, all_tried}
 use Rattle.season.proofs.try_all.Goals as goal
 
 pub overflow_add-francs : goal.overflow_add-francs

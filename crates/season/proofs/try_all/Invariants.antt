@@ -1,9 +1,5 @@
-use Prim.Native.Nat.{◌+◌, ◌-◌, ◌*◌, ◌≤◌}
-use native.Mathlib.Omega.{arith}
-use mathlib.Core.Path.{◌≡◌}
-use Rattle.joining.specs.Handing.{span_at, Within}
-use Rattle.season.proofs.Paying.{outcome_most}
-use Rattle.season.proofs.Trying.{Trying, none_tried, one_tried, all_tried}
+use Prim.Native.Nat.{◌-◌, ◌≤◌}
+use Rattle.season.proofs.Trying.{Trying}
 use Rattle.season.proofs.try_all.Given as goal
 
 abbrev pub invariant-loop-i : goal.invariant-loop-i

@@ -1,8 +1,5 @@
 -- `season::try_bill` meets its contract: 2.4 is asked first, and 2.2 only of a refusal where it may differ. Assumes nothing.
 use mathlib.Core.Path.{◌≡◌, sym, ap, ◌∙◌}
-use borrow.Author.Tests.{not-true}
-use Rattle.sieve.specs.declared.Fault.{Fault}
-use Rattle.sieve.specs.Bytes.{Bytes}
 use Rattle.sieve.specs.Paper.{paper, paper_fault}
 use Rattle.sieve.specs.Verdict.{refused, verdict}
 use Rattle.swiss.specs.declared.Edition.TheVariants.{V24}

@@ -1,8 +1,6 @@
 -- `shown::counted` meets its contract: a plain line has a character for each byte. Assumes nothing.
 use native.Mathlib.Omega.{arith}
-use mathlib.Core.Path.{sym}
 use Rattle.runs.proofs.Counts.{characters_few}
-use borrow.Author.Rules.{rules}
 use Rattle.shown.proofs.counted.Goals as goal
 
 pub overflow_cast-result-else-plain : goal.overflow_cast-result-else-plain

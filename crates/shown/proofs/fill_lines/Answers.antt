@@ -2,11 +2,10 @@
 use Prim.Native.Nat.{◌+◌, ◌-◌, ◌*◌}
 use native.Mathlib.Omega.{arith}
 use mathlib.Core.Path.{◌≡◌}
-use lib.ListN.{length, get_or, drop, length-set, length-take}
-use borrow.Author.Rules.{rules}
+use lib.ListN.{get_or, drop, length-take}
 use Rattle.sieve.specs.Characters.{characters}
 use Rattle.shown.proofs.Plain.{plain_line}
-use Rattle.shown.proofs.Filling.{line_at, Filling, none_filled, one_filled, all_filled}
+use Rattle.shown.proofs.Filling.{line_at, one_filled, all_filled}
 use Rattle.shown.proofs.fill_lines.Goals as goal
 use Rattle.shown.proofs.fill_lines.Goals.{After-counted-n}
 

@@ -1,15 +1,13 @@
 -- `shown::first_wrong` meets its contract: what was not found before is found among the lines from here on. Assumes nothing.
-use Prim.Native.Nat.{◌+◌, ◌-◌, ◌*◌, ◌≤◌}
+use Prim.Native.Nat.{◌+◌, ◌-◌, ◌*◌}
 use native.Mathlib.Omega.{arith}
-use mathlib.Core.Bool.{true}
-use mathlib.Core.Path.{◌≡◌, refl, sym, ap, ◌∙◌}
-use lib.ListN.{length, get_or, take, drop, length-take}
-use borrow.Author.Rules.{rules}
+use mathlib.Core.Path.{◌≡◌, sym, ap, ◌∙◌}
+use lib.ListN.{get_or, drop, length-take}
 use borrow.Author.Tests.{eqb-true}
 use Rattle.sieve.specs.Characters.{characters}
-use Rattle.shown.specs.Shown.{wrong_as, first_wrong}
+use Rattle.shown.specs.Shown.{wrong_as}
 use Rattle.shown.proofs.Plain.{plain_part}
-use Rattle.shown.proofs.FirstWrong.{line_at3, wrong_from, wrong_first, wrong_none, wrong_here, wrong_later}
+use Rattle.shown.proofs.FirstWrong.{line_at3, wrong_first, wrong_none, wrong_here, wrong_later}
 use Rattle.shown.proofs.first_wrong.Goals as goal
 use Rattle.shown.proofs.first_wrong.Goals.{After-counted-n}
 

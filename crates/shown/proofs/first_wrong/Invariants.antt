@@ -1,14 +1,10 @@
-use Prim.Native.Nat.{◌+◌, ◌-◌, ◌*◌, ◌≤◌}
-use native.Mathlib.Omega.{arith}
+use Prim.Native.Nat.{◌-◌, ◌≤◌}
 use mathlib.Core.Bool.{true}
-use mathlib.Core.Path.{◌≡◌, refl, sym, ap, ◌∙◌}
-use lib.ListN.{length, get_or, take, drop, length-take}
-use borrow.Author.Rules.{rules}
-use borrow.Author.Tests.{eqb-true}
+use mathlib.Core.Path.{◌≡◌}
+use lib.ListN.{length}
 use Rattle.sieve.specs.Characters.{characters}
-use Rattle.shown.specs.Shown.{wrong_as, first_wrong}
-use Rattle.shown.proofs.Plain.{plain_part}
-use Rattle.shown.proofs.FirstWrong.{line_at3, wrong_from, wrong_first, wrong_none, wrong_here, wrong_later}
+use Rattle.shown.specs.Shown.{first_wrong}
+use Rattle.shown.proofs.FirstWrong.{wrong_from}
 use Rattle.shown.proofs.first_wrong.Given as goal
 
 abbrev pub invariant-loop-i : goal.invariant-loop-i

@@ -1,8 +1,5 @@
 use Prim.Native.Nat.{◌-◌}
-use native.Mathlib.Omega.{arith}
-use lib.ListN.{length-set}
-use borrow.Author.Rules.{rules}
-use Rattle.shown.proofs.Taking.{Taken, none_taken, one_taken, all_taken}
+use Rattle.shown.proofs.Taking.{Taken}
 use Rattle.shown.proofs.places_in.Given as goal
 
 abbrev pub invariant-loop-i : goal.invariant-loop-i

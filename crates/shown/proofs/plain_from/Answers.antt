@@ -1,12 +1,10 @@
 -- `shown::plain_from` meets its contract. The invariant: from here on the text is plain. Assumes nothing.
-use Prim.Native.Nat.{◌-◌, ◌≤◌}
+use Prim.Native.Nat.{◌-◌}
 use native.Mathlib.Omega.{arith}
 use native.Mathlib.Nat.{sub-zero}
 use mathlib.Core.Path.{◌≡◌, sym, ◌∙◌}
-use lib.ListN.{length, take, drop}
-use borrow.Author.Rules.{rules}
+use lib.ListN.{take, drop}
 use Rattle.sieve.specs.Characters.{characters}
-use Rattle.shown.specs.Shown.{OnePerByte}
 use Rattle.shown.proofs.Plain.{plain_end, plain_earlier, plain_all}
 use Rattle.shown.proofs.plain_from.Goals as goal
 

@@ -12,9 +12,10 @@ loop-at-preserved c =
     let here = c.loop-at-test.true in
     let more = c.if-length-eq35.false in
     elim c.if-in_x.branch [
-      then-in_x w ↦ rw (w.bytes-is, w.length-is, w.replaced-is) (put_as_is going here more (rw c.in_x.ensures at w.if-in_x.true))
-    | else-in_x+then-begins w ↦ rw (w.bytes-is, w.length-is, w.replaced-is) (put_stop going here more (rw c.in_x.ensures at w.if-in_x.false) (rw w.begins.ensures at w.if-begins.true))
-    | else-in_x+else-begins w ↦ rw (w.bytes-is, w.length-is, w.replaced-is) (passed_over going here (rw w.begins.ensures at w.if-begins.false)) ]
+      | then-in_x w ↦ rw (w.bytes-is, w.length-is, w.replaced-is) (put_as_is going here more (rw c.in_x.ensures at w.if-in_x.true))
+      | else-in_x+then-begins w ↦ rw (w.bytes-is, w.length-is, w.replaced-is) (put_stop going here more (rw c.in_x.ensures at w.if-in_x.false) (rw w.begins.ensures at w.if-begins.true))
+      | else-in_x+else-begins w ↦ rw (w.bytes-is, w.length-is, w.replaced-is) (passed_over going here (rw w.begins.ensures at w.if-begins.false))
+    ]
 
 pub returns : goal.returns
 returns c = at_the_end c.loop-at.invariant c.loop-at-test.false

@@ -3,7 +3,6 @@ use mathlib.Core.Path.{sym, ◌∙◌}
 use Rattle.sieve.specs.Bytes.{ascii}
 use Rattle.sieve.specs.Mod97.{numeral}
 use Rattle.sieve.proofs.Bounds.{same_is}
-use borrow.Author.Rules.{rules}
 use Rattle.swiss_forms.proofs.country_letters.Goals as goal
 
 pub returns-then-same : goal.returns-then-same

@@ -2,15 +2,14 @@
 use native.Mathlib.Omega.{arith}
 use mathlib.Core.Bool.{true, ◌&&◌, and-false}
 use mathlib.Core.Path.{◌≡◌, sym, ◌∙◌}
-use lib.ListN.{take, drop, length-drop}
-use borrow.Author.Tests.{eq-eqb, ne_eqb}
-use Rattle.sieve.specs.Bytes.{Bytes, every}
+use lib.ListN.{take, drop}
+use borrow.Author.Tests.{eq-eqb}
+use Rattle.sieve.specs.Bytes.{every}
 use Rattle.sieve.specs.Letters.{digit}
 use Rattle.sieve.specs.Mod97.{checks97}
 use Rattle.swiss_forms.specs.Digits.{iban_of_digits}
 use Rattle.swiss_forms.proofs.Digits.{split, to_end, overlapping}
 use Rattle.swiss_forms.proofs.Letters.{Lettered, without_letters, with_letters}
-use borrow.Author.Rules.{rules}
 use Rattle.swiss_forms.proofs.iban_right.Goals as goal
 use Rattle.swiss_forms.proofs.iban_right.Goals.{Else-letters-eq0, Then-every-2}
 

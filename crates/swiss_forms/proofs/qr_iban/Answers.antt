@@ -1,10 +1,8 @@
 -- `swiss_forms::qr_iban` meets its contract: the first two digits of the IID decide. Assumes nothing.
-use native.Mathlib.Omega.{arith}
 use mathlib.Core.Bool.{true, false}
 use mathlib.Core.Path.{◌≡◌, sym, ◌∙◌}
 use lib.ListN.{take, drop}
 use Rattle.sieve.specs.Bytes.{ascii, same}
-use borrow.Author.Rules.{rules}
 use Rattle.swiss_forms.proofs.Iids.{of_iban}
 use Rattle.swiss_forms.proofs.qr_iban.Goals as goal
 

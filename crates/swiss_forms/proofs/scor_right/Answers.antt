@@ -1,17 +1,14 @@
 -- `swiss_forms::scor_right` meets its contract: the length, RF, and digits that are right. Assumes nothing.
 use native.Mathlib.Omega.{arith}
-use mathlib.Core.Bool.{true, ◌&&◌}
+use mathlib.Core.Bool.{true}
 use mathlib.Core.Path.{◌≡◌, sym, ◌∙◌}
-use lib.ListN.{length, take, drop, length-drop}
-use borrow.Author.Tests.{le-leb, lt-leb}
-use Rattle.sieve.specs.Bytes.{Bytes, ascii, every}
+use lib.ListN.{take, drop}
+use Rattle.sieve.specs.Bytes.{ascii, every}
 use Rattle.sieve.specs.Letters.{digit}
-use Rattle.sieve.specs.Mod97.{numeral, checks97}
+use Rattle.sieve.specs.Mod97.{numeral}
 use Rattle.sieve.proofs.Bounds.{same_is}
 use Rattle.runs.proofs.Parts.{rest}
-use Rattle.swiss_forms.specs.Digits.{scor_of_digits}
 use Rattle.swiss_forms.proofs.Digits.{split}
-use borrow.Author.Rules.{rules}
 use Rattle.swiss_forms.proofs.scor_right.Goals as goal
 use Rattle.swiss_forms.proofs.scor_right.Goals.{Then-every}
 

@@ -8,15 +8,12 @@ use mathlib.Core.Bool.{true, ◌&&◌}
 use Rattle.runs.proofs.Parts.{rest}
 use Rattle.sieve.specs.Latin.{in_one}
 use Rattle.characters.specs.Runs.{run}
-use Rattle.sieve.specs.declared.Charset.{Charset}
-use Rattle.sieve.specs.Bytes.{Bytes}
 use Rattle.sieve.specs.Places.{walk_numbers}
 use Rattle.walk.specs.declared.Behind.{Behind}
 use Rattle.walk.specs.Here.{Here}
 use Rattle.walk.specs.Walking.{noted, behind_one_passed}
 use Rattle.walk.proofs.Stepping.{stops_here, ends_here}
-use Rattle.walk.proofs.Coming.{begins, line_feed, carriage_return, no_break, a_break_passed, at_start, passable, run_passed, row_passed, no_row}
-use borrow.Author.Rules.{rules}
+use Rattle.walk.proofs.Coming.{begins, line_feed, carriage_return, no_break, a_break_passed, passable, run_passed, row_passed, no_row}
 use Rattle.walk.proofs.come.Goals as goal
 use Rattle.walk.proofs.come.Goals.{After-plain_run-at, Else-at-s, Else-n-eq0}
 
@@ -61,17 +58,18 @@ pub bounds-s-at : goal.bounds-s-at
 bounds-s-at c = let at = goal.at.bounds-s-at c in there at.Else-at-s (behind at.After-plain_run-at).within
 
 pub pass-passed-requires : goal.pass-passed-requires
-pass-passed-requires c = 
+pass-passed-requires c =
     let at = goal.at.pass-passed-requires c in
     let b = behind at.After-plain_run-at in
     (c.pass-arg-1.given.0.1, passable 1 b (omega arith) (omega (arith, (feed_passed at.Else-at-s b c.pass-arg-1.given.0.1 c.if-x-eq10.true).within)))
 
 pub lines-preserved-then-x-eq10 : goal.lines-preserved-then-x-eq10
 lines-preserved-then-x-eq10 c =
-    let at = goal.at.lines-preserved-then-x-eq10 c in
-    (rw (c.pass-passed.ensures.places_after, c.pass-passed.ensures.value) (feed_passed at.Else-at-s (behind at.After-plain_run-at) c.pass-arg-1.given.0.1 c.if-x-eq10.true),
+    let at = goal.at.lines-preserved-then-x-eq10 c in (
+      rw (c.pass-passed.ensures.places_after, c.pass-passed.ensures.value) (feed_passed at.Else-at-s (behind at.After-plain_run-at) c.pass-arg-1.given.0.1 c.if-x-eq10.true),
       (λ h. ap (λ (p : Behind). p.start) c.pass-passed.ensures.value),
-      c.loop-at.invariant.2)
+      c.loop-at.invariant.2,
+    )
 
 pub feed_after-requires : goal.feed_after-requires
 feed_after-requires c = let at = goal.at.feed_after-requires c in there at.Else-at-s (behind at.After-plain_run-at).within
@@ -86,10 +84,11 @@ pass-passed-requires-then-x-feed_after c =
 pub lines-preserved : goal.lines-preserved
 lines-preserved c =
     let at = goal.at.lines-preserved c in
-    let passed = c.pass-passed-then-x-feed_after.ensures in
-    (rw (passed.places_after, passed.value) (return_passed at.Else-at-s (behind at.After-plain_run-at) c.pass-arg-then-x-feed_after-1.given.0.1 (rw c.feed_after.ensures at c.if-x-feed_after.true)),
+    let passed = c.pass-passed-then-x-feed_after.ensures in (
+      rw (passed.places_after, passed.value) (return_passed at.Else-at-s (behind at.After-plain_run-at) c.pass-arg-then-x-feed_after-1.given.0.1 (rw c.feed_after.ensures at c.if-x-feed_after.true)),
       (λ h. ap (λ (p : Behind). p.start) passed.value),
-      c.loop-at.invariant.2)
+      c.loop-at.invariant.2,
+    )
 
 pub overflow_add-at-in-loop-at : goal.overflow_add-at-in-loop-at
 overflow_add-at-in-loop-at c =

@@ -1,6 +1,5 @@
 -- `walk::counted` meets its contract: the counts tell breaks that are all alike. Assumes nothing.
 use mathlib.Core.Path.{sym, ◌∙◌}
-use borrow.Author.Rules.{rules}
 use Rattle.lines.proofs.Counting.{all_feeds, all_returns}
 use Rattle.walk.proofs.counted.Goals as goal
 

@@ -1,8 +1,5 @@
 -- `walk::list` meets its contract: the last line ends with the bytes, and the lines after it are absent. Assumes nothing.
 use native.Mathlib.Omega.{arith}
-use borrow.Author.Tests.{le-leb, lt-leb}
-use borrow.Author.Rules.{rules}
-use Rattle.places.specs.Listed.{greatest}
 use Rattle.walk.proofs.Stepping.{few}
 use Rattle.walk.proofs.Coming.{one_noted, last_line}
 use Rattle.walk.proofs.list.Goals as goal

@@ -1,10 +1,5 @@
 -- `walk::list_absent` meets its contract. The invariant: i lines are noted, and the others are absent. Assumes nothing.
-use Prim.Native.Nat.{◌-◌}
-use native.Mathlib.Omega.{arith}
-use mathlib.Core.Path.{◌≡◌}
-use lib.ListN.{length, length-set}
-use Rattle.sieve.specs.Places.{walk_lines, walk_numbers}
-use Rattle.places.specs.Listed.{listed_of, Filled}
+use lib.ListN.{length-set}
 use Rattle.walk.proofs.Coming.{one_absent, all_listed}
 use Rattle.walk.proofs.list_absent.Goals as goal
 

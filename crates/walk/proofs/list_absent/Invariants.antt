@@ -1,10 +1,8 @@
 use Prim.Native.Nat.{◌-◌}
-use native.Mathlib.Omega.{arith}
 use mathlib.Core.Path.{◌≡◌}
-use lib.ListN.{length, length-set}
+use lib.ListN.{length}
 use Rattle.sieve.specs.Places.{walk_lines, walk_numbers}
 use Rattle.places.specs.Listed.{listed_of, Filled}
-use Rattle.walk.proofs.Coming.{one_absent, all_listed}
 use Rattle.walk.proofs.list_absent.Given as goal
 
 abbrev pub invariant-loop-i : goal.invariant-loop-i

@@ -1,15 +1,10 @@
 -- `walk::pass_feeds` meets its contract: the loop keeps how the walk has gone through the sixteen bytes so far. Assumes nothing.
-use Prim.Native.Nat.{ℕ, ◌+◌, ◌<◌}
+use Prim.Native.Nat.{◌+◌, ◌<◌}
 use native.Mathlib.Omega.{arith}
-use mathlib.Core.Path.{◌≡◌}
-use lib.Count.{count_trailing_zeros}
-use lib.ListN.{length, get_or}
-use lib.Pow.{pow_pos}
-use borrow.Author.Rules.{rules}
-use Rattle.sieve.specs.Bytes.{Bytes}
-use Rattle.walk.specs.Here.{Reached, Inside, GoneThrough}
+use lib.ListN.{length}
+use Rattle.walk.specs.Here.{Reached, Inside}
 use Rattle.walk.proofs.Coming.{passable}
-use Rattle.walk.proofs.BySixteens.{standing, nowhere, and_through, mark_there, at_mark, over_one, feed_passed}
+use Rattle.walk.proofs.BySixteens.{standing, and_through, mark_there, at_mark, over_one, feed_passed}
 use Rattle.walk.proofs.pass_feeds.Goals as goal
 use Rattle.walk.proofs.pass_feeds.Goals.{After-first_marked}
 

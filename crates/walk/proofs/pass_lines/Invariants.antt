@@ -1,18 +1,8 @@
-use Prim.Native.Nat.{ℕ, ◌+◌, ◌-◌, ◌*◌, ◌%◌, ◌^◌, ◌≤◌, ◌<◌}
-use native.Mathlib.Omega.{arith}
-use mathlib.Core.Bool.{Bool, true, false, cond}
-use mathlib.Core.List.{List}
-use mathlib.Core.Path.{◌≡◌, refl}
-use lib.Bits.{bit_and}
+use Prim.Native.Nat.{◌+◌, ◌-◌}
+use mathlib.Core.Bool.{cond}
 use lib.Dec.{ltb}
 use lib.ListN.{length}
-use lib.Pow.{shl_exact}
-use borrow.Author.Tests.{ltb-false, le-ltb}
-use borrow.Author.Rules.{rules}
-use Rattle.sieve.specs.Bytes.{Bytes}
-use Rattle.walk.specs.declared.Behind.{Behind}
-use Rattle.walk.specs.Here.{Going, Among, Inside, Through, GoneThrough}
-use Rattle.walk.proofs.BySixteens.{stays, told, standing, mark_among, and_through, On, Onward, afresh, no_sixteen, among_kept, all_before, the_last, on_to_mark, past}
+use Rattle.walk.proofs.BySixteens.{On, Onward}
 use Rattle.walk.proofs.pass_lines.Given as goal
 
 abbrev pub invariant-loop-from-2 : goal.invariant-loop-from-2

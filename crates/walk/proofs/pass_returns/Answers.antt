@@ -1,16 +1,12 @@
 -- `walk::pass_returns` meets its contract: the loop keeps how the walk has gone through the sixteen bytes so far. Assumes nothing.
-use Prim.Native.Nat.{ℕ, ◌+◌, ◌<◌}
+use Prim.Native.Nat.{◌+◌, ◌<◌}
 use native.Mathlib.Omega.{arith}
-use mathlib.Core.Path.{◌≡◌, refl, ap, ◌∙◌}
-use lib.Count.{count_trailing_zeros}
-use lib.ListN.{length, get_or}
-use lib.Pow.{pow_pos}
-use borrow.Author.Rules.{rules}
-use Rattle.sieve.specs.Bytes.{Bytes}
+use mathlib.Core.Path.{refl, ap, ◌∙◌}
+use lib.ListN.{length}
 use Rattle.characters.specs.Marks.{without_first}
-use Rattle.walk.specs.Here.{Reached, Inside, GoneThrough}
+use Rattle.walk.specs.Here.{Reached, Inside}
 use Rattle.walk.proofs.Coming.{passable}
-use Rattle.walk.proofs.BySixteens.{standing, nowhere, and_through, mark_there, two_there, at_mark, over_two, return_passed}
+use Rattle.walk.proofs.BySixteens.{standing, and_through, mark_there, two_there, at_mark, over_two, return_passed}
 use Rattle.walk.proofs.pass_returns.Goals as goal
 use Rattle.walk.proofs.pass_returns.Goals.{After-first_marked, Else-later-eq0}
 

@@ -1,7 +1,6 @@
 -- `whole::judge_breaks` meets its contract: rules 4 and 5, by how the lines are parted. Assumes nothing.
 use Rattle.sieve.specs.Charsets.{of_set}
 use Rattle.whole.proofs.Stages.{mixed, wrong_count, kept}
-use borrow.Author.Rules.{rules}
 use Rattle.whole.proofs.judge_breaks.Goals as goal
 
 pub returns-in-Unlike : goal.returns-in-Unlike

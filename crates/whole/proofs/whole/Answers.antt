@@ -1,7 +1,6 @@
 -- `whole::whole` meets its contract: each test either ends in the answer or leaves the findings after it. Assumes nothing.
 use Rattle.sieve.specs.Charsets.{of_set}
 use Rattle.whole.proofs.Stages.{no_bytes, too_many, bad_character, clean}
-use borrow.Author.Rules.{rules}
 use Rattle.whole.proofs.whole.Goals as goal
 
 pub returns-then-payload-eq0 : goal.returns-then-payload-eq0

@@ -35,5 +35,5 @@ returns-in-Bytes c =
     let a = c.args in
     let joined = gathered_joined (goal.at.returns-in-Bytes c).In-Bytes in
     let judged : paper c.verdict_in-answer.result ≡ verdict (swiss_in a.edition) (bytes_of a.text.now a.inner.now a.count a.brk) =
-        c.verdict_in-answer.ensures ∙ ap (verdict (swiss_in a.edition)) (laid_front (bytes_of a.text.now a.inner.now a.count a.brk) _ _ _ joined.of_length.bytes_are c.lay_lines.ensures) in
+    c.verdict_in-answer.ensures ∙ ap (verdict (swiss_in a.edition)) (laid_front (bytes_of a.text.now a.inner.now a.count a.brk) _ _ _ joined.of_length.bytes_are c.lay_lines.ensures) in
     settles (edition_serves _) joined c.verdict_in-answer.result judged c.settle.ensures.value c.settle.ensures.dest_after

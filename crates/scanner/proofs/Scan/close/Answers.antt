@@ -1,8 +1,5 @@
 -- `scanner::Scan::close` meets its contract: the reader is asked about what is held. Assumes nothing.
 use native.Mathlib.Omega.{arith}
-use mathlib.Core.Path.{◌≡◌}
-use lib.ListN.{length}
-use borrow.Author.Rules.{rules}
 use Rattle.scanner.proofs.Handing.{over_closed, held_closed}
 use Rattle.scanner.proofs.Scan.close.Goals as goal
 
