@@ -10,45 +10,33 @@ use Rattle.joining.proofs.Laying.{laid_front}
 use Rattle.joining.proofs.Stages.{stops, goes_on, settles}
 use Rattle.girocode.proofs.Serves.{girocode_serves}
 use Rattle.giro_writer.proofs.write.Goals as goal
-use Rattle.giro_writer.proofs.write.Goals.{After-verdict-answer, In-Bytes-2, Start}
-
--- where all began, and where the lines were known to be gathered
-abbrev start : In-Bytes-2 → Start
-start q = q.before.before.before.before.before.before
-
-abbrev known : After-verdict-answer → In-Bytes-2
-known q = q.before.before.before.before.before.before.before
+use Rattle.giro_writer.proofs.write.Goals.{In-Bytes}
 
 -- lines that are gathered can be joined
-gathered-joined : (c : In-Bytes-2)
-    → let a = (start c).args in
-    Joined girocode a.text.now a.places.now a.places.now a.count a.brk a.dest.now c.in-Bytes.n
+gathered_joined : (c : In-Bytes) → let a = c.args in Joined girocode a.text.now a.places.now a.places.now a.count a.brk a.dest.now c.in-Bytes.n
 unfolding girocode
-gathered-joined c = goes_on refl girocode_serves (sym c.gather.ensures ∙ c.in-Bytes.is)
-
--- the verdict is that on the joined bytes, which lie in the front of the buffer
-judged : (c : After-verdict-answer)
-    → let a = (start (known c)).args in
-    paper c.verdict-answer.result ≡ verdict girocode (bytes_of a.text.now a.places.now a.count a.brk)
-judged c =
-    let a = (start (known c)).args in
-    c.verdict-answer.ensures ∙ ap (verdict girocode) (laid_front (bytes_of a.text.now a.places.now a.count a.brk) _ _ _ (gathered-joined (known c)).of_length.bytes_are c.lay_lines.ensures)
+gathered_joined c = goes_on refl girocode_serves (sym c.gather.ensures ∙ c.in-Bytes.is)
 
 pub lay_lines-requires : goal.lay_lines-requires
 unfolding girocode
-lay_lines-requires c = search (rules, gathered-joined (goal.at.lay_lines-requires c).In-Bytes-2)
+lay_lines-requires c = search (rules, gathered_joined (goal.at.lay_lines-requires c).In-Bytes)
 
 pub slice_bounds-verdict-end : goal.slice_bounds-verdict-end
 unfolding girocode
-slice_bounds-verdict-end c = search (rules, gathered-joined (goal.at.slice_bounds-verdict-end c).In-Bytes-2)
+slice_bounds-verdict-end c = search (rules, gathered_joined (goal.at.slice_bounds-verdict-end c).In-Bytes)
 
 pub settle-requires : goal.settle-requires
-settle-requires c = (gathered-joined (known (goal.at.settle-requires c).After-verdict-answer)).of_length
+settle-requires c = (gathered_joined (goal.at.settle-requires c).In-Bytes).of_length
 
 pub returns-in-Refused : goal.returns-in-Refused
 unfolding girocode
 returns-in-Refused c = stops refl girocode_serves (sym c.gather.ensures ∙ c.in-Refused.is)
 
+-- the verdict is that on the joined bytes, which lie in the front of the buffer
 pub returns-in-Bytes : goal.returns-in-Bytes
 returns-in-Bytes c =
-    settles girocode_serves (gathered-joined (known (goal.at.returns-in-Bytes c).After-verdict-answer)) c.verdict-answer.result (judged (goal.at.returns-in-Bytes c).After-verdict-answer) c.settle.ensures.value c.settle.ensures.dest_after
+    let a = c.args in
+    let joined = gathered_joined (goal.at.returns-in-Bytes c).In-Bytes in
+    let judged : paper c.verdict-answer.result ≡ verdict girocode (bytes_of a.text.now a.places.now a.count a.brk) =
+        c.verdict-answer.ensures ∙ ap (verdict girocode) (laid_front (bytes_of a.text.now a.places.now a.count a.brk) _ _ _ joined.of_length.bytes_are c.lay_lines.ensures) in
+    settles girocode_serves joined c.verdict-answer.result judged c.settle.ensures.value c.settle.ensures.dest_after

@@ -12,33 +12,23 @@ use Rattle.season.specs.Season.{editions_differ}
 use Rattle.season.proofs.Accepting.{by_old, by_new, accepted_apart, accepted_alike, refused_too, refused_alike}
 use Rattle.season.proofs.Paying.{nothing_added}
 use Rattle.season.proofs.try_bill.Goals as goal
-use Rattle.season.proofs.try_bill.Goals.{After-apart, After-judge_in-old, After-may_differ}
+use Rattle.season.proofs.try_bill.Goals.{After-apart, After-may_differ}
 
-abbrev bill : After-may_differ → Bytes
-bill q = q.args.bill.now
-
-abbrev fault : After-may_differ → Fault
-fault q = q.in-Refused.fault
-
-refuses : (q : After-may_differ) → verdict (swiss_in V24) (bill q) ≡ refused (paper_fault (fault q))
+refuses : (q : After-may_differ) → verdict (swiss_in V24) q.args.bill.now ≡ refused (paper_fault q.in-Refused.fault)
 refuses q = sym q.judge_in-new.ensures.answer ∙ ap paper q.in-Refused.is
 
--- from where 2.2 was asked to where it was asked whether it may differ
-abbrev earlier : After-judge_in-old → After-may_differ
-earlier q = q.before.before.before
-
-differing : (c : After-apart) → c.apart.result ≡ editions_differ (bill (earlier c.before.before.before))
+differing : (c : After-apart) → verdict (swiss_in V24) c.args.bill.now ≡ refused (paper_fault c.in-Refused.fault) → c.apart.result ≡ editions_differ c.args.bill.now
 unfolding editions_differ
-differing c = rw (sym c.judge_in-old.ensures.answer, refuses (earlier c.before.before.before)) c.apart.ensures
+differing c new = rw (sym c.judge_in-old.ensures.answer, new) c.apart.ensures
 
 pub paid-requires : goal.paid-requires
 paid-requires c = by_new (rw c.in-Accepted.is at c.judge_in-new.ensures)
 
 pub returns-then-not-may_differ : goal.returns-then-not-may_differ
 returns-then-not-may_differ c =
-    let p = bill (goal.at.returns-then-not-may_differ c).After-may_differ in
+    let p = c.args.bill.now in
     let new = refuses (goal.at.returns-then-not-may_differ c).After-may_differ in
-    let alike = sym c.may_differ.ensures ∙ not-true _ c.if-not-may_differ.true in
+    let alike = sym c.may_differ.ensures ∙ c.if-not-may_differ.true in
     let old = refused_too p _ new alike in
     record { differs_is = sym (refused_alike p _ new alike); in_francs = sym (nothing_added p old francs); in_euros = sym (nothing_added p old euros) }
 
@@ -54,13 +44,12 @@ returns-in-Accepted c =
 
 pub returns-in-Accepted-old : goal.returns-in-Accepted-old
 returns-in-Accepted-old c =
-    let at_new = earlier (goal.at.returns-in-Accepted-old c).After-judge_in-old in
     let old = sym c.judge_in-old.ensures.answer ∙ ap paper c.in-Accepted-old.is in
     let outcome = c.paid-in-Accepted-old.ensures in
-    record { differs_is = outcome.differs_is ∙ sym (accepted_apart (bill at_new) _ _ (fault at_new) old (refuses at_new)); in_francs = outcome.in_francs; in_euros = outcome.in_euros }
+    record { differs_is = outcome.differs_is ∙ sym (accepted_apart c.args.bill.now _ _ c.in-Refused.fault old (refuses (goal.at.returns-in-Accepted-old c).After-may_differ)); in_francs = outcome.in_francs; in_euros = outcome.in_euros }
 
 pub returns-in-Refused-old : goal.returns-in-Refused-old
 returns-in-Refused-old c =
-    let p = bill (earlier (goal.at.returns-in-Refused-old c).After-judge_in-old) in
+    let p = c.args.bill.now in
     let old = sym c.judge_in-old.ensures.answer ∙ ap paper c.in-Refused-old.is in
-    record { differs_is = differing (goal.at.returns-in-Refused-old c).After-apart; in_francs = sym (nothing_added p old francs); in_euros = sym (nothing_added p old euros) }
+    record { differs_is = differing (goal.at.returns-in-Refused-old c).After-apart (refuses (goal.at.returns-in-Refused-old c).After-may_differ); in_francs = sym (nothing_added p old francs); in_euros = sym (nothing_added p old euros) }
