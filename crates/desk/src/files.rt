@@ -107,7 +107,14 @@ fn clear_progress(terminal: bool) {
     }
 }
 
-fn judge_file(rt: &HostRuntime, i: usize, girocode: bool, terminal: bool, out: &mut [u8], t: Tally) -> Tally {
+fn judge_file(
+    rt: &HostRuntime,
+    i: usize,
+    girocode: bool,
+    terminal: bool,
+    out: &mut [u8],
+    t: Tally,
+) -> Tally {
     let mut name = io::buffer();
     let n = argument(rt, i, &mut name);
     let mut payload = [0u8; READ_BYTES];
