@@ -1,7 +1,7 @@
 /* A host in C for girocodes: says why the payload on standard input is refused, or who is paid how much.
 
-       rt staticlib giro_capi
-       cc -I include examples/girocode.c target/staticlib/libgiro_capi.a -o girocode
+       (cd crates/giro_capi && rt lib)
+       cc -I include examples/girocode.c crates/giro_capi/out/libgiro_capi.a -o girocode
        ./girocode < examples/girocode.txt */
 
 #include <stdint.h>

@@ -1,8 +1,8 @@
 /* The reader and the writer of Swiss QR-bill payloads, and of girocodes, for programs in C (C99 or later)
    and C++, on x86-64 Linux.
 
-   Link libcapi.a for the Swiss bill, which `rt staticlib capi` writes to target/staticlib, and
-   libgiro_capi.a for the girocode, by `rt staticlib giro_capi`; or both.
+   Link libcapi.a for the Swiss bill, which `rt lib` in crates/capi writes to crates/capi/out, and
+   libgiro_capi.a for the girocode, by `rt lib` in crates/giro_capi; or both.
 
    What is lent. A payload is `length` bytes at `payload`, of any content and any length; a text, a
    list and a destination are lent in the same way, a list as so many numbers of its type, aligned

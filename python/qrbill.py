@@ -22,9 +22,9 @@ Threads. Any number of threads may call at once, and may share a Scan.
 The library is the file that the environment variable QRBILL_LIBRARY names, or target/libqrbill.so of
 the repository. It is for x86-64 Linux, and `python/build` makes it, by these commands:
 
-    rt staticlib capi && rt staticlib giro_capi
-    cc -shared -o target/libqrbill.so -Wl,--whole-archive target/staticlib/libcapi.a \\
-        target/staticlib/libgiro_capi.a -Wl,--no-whole-archive
+    (cd crates/capi && rt lib) && (cd crates/giro_capi && rt lib) && mkdir -p target
+    cc -shared -o target/libqrbill.so -Wl,--whole-archive crates/capi/out/libcapi.a \\
+        crates/giro_capi/out/libgiro_capi.a -Wl,--no-whole-archive
 """
 
 import ctypes

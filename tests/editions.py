@@ -2,7 +2,7 @@
 
     python3 tests/editions.py
 
-runs the program `cases`, as the gate made it, on 20,000 damaged bills whose creditor or debtor is of
+runs the program `cases` on 20,000 damaged bills whose creditor or debtor is of
 type K, or whose QR reference stands with EUR. Each is read under 2.2; of every fourth SWIFT fields are
 made, every tenth is written anew and handed over in bits, and every four are a pile. Calls for C are
 of 2.4, so these records go through a program. Prints a line for each difference and at the end
@@ -29,7 +29,6 @@ from scanning import pieces
 from telling import Count
 from writer_calls import Call
 
-PROGRAM = kit.ROOT / 'target' / 'bin' / 'cases'
 SEED, COUNT = 22, 20000
 ROOM, PILE, PILE_NUMBERS = 320, 4, 8  # as in the program
 CREDITOR, DEBTOR = 5, 21
@@ -133,7 +132,7 @@ def tries(payloads):
 
 def written(records):
     """What the program writes for records."""
-    return subprocess.run(kit.command(PROGRAM), input=b''.join(records), check=True,
+    return subprocess.run(kit.command(kit.program('cases')), input=b''.join(records), check=True,
                           stdout=subprocess.PIPE, env=kit.environment()).stdout
 
 

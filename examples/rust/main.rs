@@ -1,7 +1,7 @@
 // A host in Rust: says how many lines the payload on standard input has, or why it is refused.
 //
-//     rt staticlib capi
-//     rustc examples/rust/main.rs -L target/staticlib -o target/host_in_rust
+//     (cd crates/capi && rt lib)
+//     rustc examples/rust/main.rs -L crates/capi/out -o target/host_in_rust
 
 use std::io::{self, Read};
 use std::process::ExitCode;

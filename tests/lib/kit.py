@@ -24,8 +24,8 @@ FLAGS = [
 
 def quietly(words, folder=None):
     """Run a command; print what it says only if it fails."""
-    ran = subprocess.run(words, cwd=folder, stdout=subprocess.PIPE, stderr=subprocess.STDOUT,
-                         text=True, check=False)
+    ran = subprocess.run(words, cwd=folder, stdin=subprocess.DEVNULL, stdout=subprocess.PIPE,
+                         stderr=subprocess.STDOUT, text=True, errors='replace', check=False)
     if ran.returncode != 0:
         print(ran.stdout, flush=True)
     ran.check_returncode()
@@ -50,8 +50,15 @@ def linked(program: Path, *files: Path) -> Path:
 def static_library(crate: str) -> Path:
     """Prove a crate of this repository and make its static library; once, however often it is asked
     for."""
-    quietly(['rt', 'lib', crate], ROOT)
+    quietly(['rt', 'lib'], ROOT / 'crates' / crate)
     return ROOT / 'crates' / crate / 'out' / f'lib{crate}.a'
+
+
+@cache
+def program(crate: str) -> Path:
+    """Prove a program of this repository and build it; once, however often it is asked for."""
+    quietly(['rt', 'run'], ROOT / 'crates' / crate)
+    return ROOT / 'crates' / crate / 'out' / crate
 
 
 def command(program: Path, *words: str, emulator_options=()) -> list:
