@@ -30,7 +30,7 @@ from wrong_shared import SHARED
 LAYOUTS = {'swiss': wrong_swiss, 'girocode': wrong_girocode}
 CLAIM = re.compile(r'\npub \S+ : T \(right \w+ (?P<rows>\w+)\)\nunfolding (?P<opened>.*)\n.*\n')
 ROW = re.compile(r'^    (?:∷ )?(?:good|bad|case|record)', re.MULTILINE)
-SIZES = re.compile(r'\n.*\npub base-sizes .*\n.*\n')
+SIZES = re.compile(r'\n.*\npub base_sizes .*\n.*\n')
 ERROR = re.compile(r'^(\S+?):\d+:\d+: error:', re.MULTILINE)
 TABLES = ('Table', 'SecondTable')
 ASKED = 'Asked.antt'
@@ -82,7 +82,7 @@ def ask(copy, layout, comment):
     skipped = len(ROW.findall(texts[1].partition(f'    -- {comment}')[0] if comment else texts[1]))
     claim = [
         '-- A row is wrong. Assumes nothing.', *(line for line in texts[1].splitlines() if line.startswith('use ')),
-        *(f'use Rattle·{layout}·specs.specs.{name}.{{{rows}}}' for name, rows in zip(TABLES, (first, second))),
+        *(f'use Rattle.{layout}.specs.{name}.{{{rows}}}' for name, rows in zip(TABLES, (first, second))),
         f'pub asked : T (mathlib.Core.Bool.not (right {layout} (lib.ListN.drop {skipped} {second} ++ ({first} ++ {second}))))',
         f'unfolding {first} {opened}', 'asked = tt', '']
     (copy / 'crates' / layout / 'specs' / ASKED).write_text('\n'.join(claim), 'utf-8')
@@ -99,7 +99,7 @@ def change(file, old, new):
 
 def failing(copy, layout):
     """The files in which the prover found an error."""
-    run = subprocess.run(['rt', 'dev', layout], cwd=copy, capture_output=True, text=True, check=False)
+    run = subprocess.run(['rt', 'check'], cwd=copy / 'crates' / layout, capture_output=True, text=True, check=False)
     found = {Path(file).name for file in ERROR.findall(run.stdout + run.stderr)}
     return found if found or run.returncode == 0 else {run.stdout + run.stderr}
 
