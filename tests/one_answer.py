@@ -34,8 +34,8 @@ NAME = re.compile(r'`([^`]+)`')
 NAMED_PROGRAM = re.compile(r'`(\w+)/(\w+)`')
 NAMED_CONTRACT = re.compile(rf'\b(?:fn|contracts)\.{METHOD_OF}(\w+)\.(?:Reads\.Learnt|clauses)\b')
 
-# Functions that are proved by hand: their theorems take a reading of the contract that stands in the
-# same file, which shows that the contract says just that.
+# Functions that take or make a struct which holds a reference: their theorems take a reading of the
+# contract that stands in the same file, which shows that the contract says just that.
 OWN_READINGS = {('viewer', name) for name in ('open', 'done', 'line', 'next')}
 # Functions that hand out a part of what they were lent. Two such parts are compared by what a
 # program has of them, and not by the ghost name of the reference (docs/ONE_ANSWER.md).

@@ -1,4 +1,4 @@
--- The contract of each public function leaves one answer. Four of them are walks by hand, and the toolchain gives no reading of their contracts: here are the readings, and that each contract says just that. Assumes nothing.
+-- The contract of each public function leaves one answer. Of the four that take or make a viewer these are readings of their contracts, and that each contract says just that. Assumes nothing.
 use Prim.Native.Nat.{ℕ}
 use mathlib.Core.Path.{◌≡◌, refl, sym, ◌∙◌}
 use seplogic.Ra.Ura.{Ura}
