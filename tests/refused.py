@@ -46,6 +46,7 @@ ENDED = re.compile(r'^fn \w+::(?P<function>[\w:]+): (?P<end>.*)', re.MULTILINE)
 PROVED = re.compile(r'proved$|.*it calls .* not proved$')  # or held up by one that is not proved
 PROOF = re.compile(r'proofs/(?:\w+/)*(?P<function>\w+)/(?:Answers|Invariants)\.antt$')
 TRIED = re.compile(r'^rt: must-fail (?P<check>\w+/\w+)\.edit: (?P<how>.*)', re.MULTILINE)
+REFUSED = re.compile(r'^rt: ok\b.*must-fail edits: (\d+) refused', re.MULTILINE)
 AT_A_FACT = re.compile(r'refused, as it must be: (?:note: )?(?:\./)?(?P<place>\S+?:\d+):')
 ROW = re.compile(r'^\| [^|]+ \| `(?P<edit>[^`]+)` \| `(?P<place>[^`]+)`', re.MULTILINE)
 
@@ -153,6 +154,8 @@ def checks_of_log():
         found = AT_A_FACT.match(how)
         yield f'{check} is refused at a fact', True, bool(found) or how == 'refused, as it must be'
         places[check] = found['place'] if found else ''
+    counted = REFUSED.findall(SAID.read_text('utf-8'))
+    yield 'wrong programs that are refused, in files', [str(len(list(edits())))], counted[-1:]
     programs = lazy_programs()
     yield 'there are lazy programs', True, bool(programs)
     known = {named(edit) for edit in edits()}

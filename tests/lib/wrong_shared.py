@@ -107,7 +107,7 @@ SHARED = (
     Wrong('the line after the unlike break', VERDICT, "(λ k. not (same_break (kind ks) k)) 1 ks", "(λ k. not (same_break (kind ks) k)) 2 ks"),
     Wrong('the line before the bad byte', VERDICT, '1 + line_feeds (take at p)', 'line_feeds (take at p)'),
     Wrong('as many bytes as allowed are too many', VERDICT, 'ltb L.most_bytes (length p)', 'lib.Dec.leb L.most_bytes (length p)'),
-    Wrong('characters counted, not bytes', VERDICT, 'ltb L.most_bytes (length p)', 'ltb L.most_bytes (Rattle.sieve·specs.specs.Characters.characters p)'),
+    Wrong('characters counted, not bytes', VERDICT, 'ltb L.most_bytes (length p)', 'ltb L.most_bytes (Rattle.sieve.specs.Characters.characters p)'),
     Wrong('4 before 3', VERDICT, 'bad_character_refusal L p ls ∷ mixed_breaks_refusal (breaks_of c)', 'mixed_breaks_refusal (breaks_of c) ∷ bad_character_refusal L p ls'),
     Wrong('5 before 4', VERDICT, 'mixed_breaks_refusal (breaks_of c) ∷ line_count_refusal L ls', 'line_count_refusal L ls ∷ mixed_breaks_refusal (breaks_of c)'),
     Wrong('3 before 2', VERDICT, 'too_many_bytes_refusal L p ∷ bad_character_refusal L p ls', 'bad_character_refusal L p ls ∷ too_many_bytes_refusal L p'),

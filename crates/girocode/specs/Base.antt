@@ -23,7 +23,7 @@ bad_at i j ls = case Lf ls (refused (under_at 3 i j))
 abbrev pub bad_byte : List Bytes → Case
 bad_byte ls = bad_at 6 24 ls
 
--- ü and the no_break space in ISO 8859-1
+-- ü and the no-break space in ISO 8859-1
 
 abbrev pub umlaut_iso : Bytes
 umlaut_iso = 0xFC ∷ []
