@@ -1,7 +1,7 @@
 -- What lines 1 to 4 are where nothing is found in them: three texts of known lengths, and an IBAN. Assumes nothing.
 use Prim.Native.Nat.{ℕ, zero, suc}
 use mathlib.Core.Bool.{true, false, ◌&&◌, not}
-use mathlib.Core.List.{List, [], ◌∷◌}
+use mathlib.Core.List.{List, [], ◌∷◌, ◌++◌, map}
 use mathlib.Core.Option.{Option, some, none, none-ne-some}
 use mathlib.Core.Path.{◌≡◌, refl, sym, ap}
 use lib.ListN.{length, take}
@@ -9,11 +9,12 @@ use borrow.Author.Tests.{not-false}
 use Rattle.sieve.specs.Bytes.{Bytes, ascii}
 use Rattle.sieve.specs.Mod97.{checks97}
 use Rattle.sieve.specs.Rules.{line, no_text}
-use Rattle.sieve.specs.Verdict.{Refusal, first}
+use Rattle.sieve.specs.Verdict.{Refusal, about_lines, first}
 use Rattle.sieve.proofs.Bounds.{same_is}
-use Rattle.sieve.proofs.Findings.{found_none, each_none}
+use Rattle.sieve.proofs.Findings.{found_none, each_none, none_further}
 use Rattle.swiss.specs.Forms.{iban}
 use Rattle.swiss.specs.Limits.{qr_type, version, coding}
+use Rattle.swiss.specs.Swiss.{header, account}
 use Rattle.swiss.proofs.Forms.{iban_length_lem}
 use Rattle.glance.specs.Glance.{found_in}
 
@@ -25,6 +26,16 @@ none_in_front [] (suc n) h = refl
 none_in_front (none ∷ os) (suc n) h = none_in_front os n h
 none_in_front (some r ∷ os) (suc n) h = absurd (none-ne-some r (sym h))
 
+-- line 4, by its own rules alone
+module _ (ls : List Bytes) (nothing : first (map (about_lines ls) account) ≡ none) where
+  filled : no_text (line 4 ls) ≡ false
+  filled = found_none _ _ (each_none _ nothing 0)
+
+  pub is_iban : iban (line 4 ls) ≡ true
+  is_iban =
+      let unbroken : (not (no_text (line 4 ls)) && not (iban (line 4 ls))) ≡ false = found_none _ _ (each_none _ nothing 1) in
+      not-false _ (rw filled at unbroken)
+
 module _ (ls : List Bytes) (nothing : found_in ls ≡ none) where
   pub text_1 : line 1 ls ≡ ascii qr_type
   text_1 = same_is (line 1 ls) (ascii qr_type) (not-false _ (found_none _ _ (each_none _ nothing 0)))
@@ -35,13 +46,8 @@ module _ (ls : List Bytes) (nothing : found_in ls ≡ none) where
   pub text_3 : line 3 ls ≡ ascii coding
   text_3 = same_is (line 3 ls) (ascii coding) (not-false _ (found_none _ _ (each_none _ nothing 2)))
 
-  filled_4 : no_text (line 4 ls) ≡ false
-  filled_4 = found_none _ _ (each_none _ nothing 3)
-
   pub iban_4 : iban (line 4 ls) ≡ true
-  iban_4 =
-      let unbroken : (not (no_text (line 4 ls)) && not (iban (line 4 ls))) ≡ false = found_none _ _ (each_none _ nothing 4) in
-      not-false _ (rw filled_4 at unbroken)
+  iban_4 = is_iban ls (none_further (map (about_lines ls) (header ++ account)) 3 nothing)
 
   pub checks_4 : checks97 (line 4 ls) ≡ true
   checks_4 = not-false _ (found_none _ _ (each_none _ nothing 5))

@@ -1,7 +1,9 @@
 pub mod Kept
 pub mod Fronts
 pub mod Begun
+pub mod Ending
 pub mod Looking
+pub mod Measured
 pub mod Leading
 pub mod Lying
 pub mod Beginning

@@ -1,4 +1,4 @@
--- What the code says of line 4, by what its rules find and by whether it is ended, is what `look` says. Assumes nothing.
+-- What the rules find of line 4, asked of a line finder, and whether it is ended, say what `look` says. Assumes nothing.
 use Prim.Native.Nat.{ℕ, suc, ◌+◌, ◌-◌, ◌≤◌}
 use native.Mathlib.Omega.{arith}
 use mathlib.Core.Bool.{Bool, true, false, cond, ◌&&◌, not}

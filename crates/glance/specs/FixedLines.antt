@@ -1,6 +1,7 @@
--- Where line 4 starts, behind the fixed texts of lines 1 to 3. Assumes nothing.
-use Rattle.std.specs.Prelude.{ℕ, ◌+◌, cond, ◌&&◌, [], ◌∷◌, eqb, get_or, drop}
+-- Where line 4 starts, behind the fixed texts of lines 1 to 3, and what ends a line. Assumes nothing.
+use Rattle.std.specs.Prelude.{ℕ, ◌+◌, Bool, cond, ◌&&◌, not, [], ◌∷◌, eqb, get_or, drop}
 use Rattle.sieve.specs.Bytes.{Bytes, ascii}
+use Rattle.sieve.specs.Characters.{break_width}
 use Rattle.swiss.specs.Limits.{qr_type, version, coding}
 
 -- of bytes that begin at place `at`: where they go on behind a break in front of them; 0 where none is
@@ -20,3 +21,8 @@ then_behind s t at = cond (eqb at 0) 0 (gone_past t at (drop at s))
 -- where line 4 starts, if lines 1 to 3 are the fixed texts and a break ends each; else 0
 unfoldable pub fourth_start : Bytes → ℕ
 fourth_start s = then_behind s (ascii coding) (then_behind s (ascii version) (gone_past (ascii qr_type) 0 s))
+
+-- what stands behind a line ends it: a break, or nothing where there are no more bytes
+unfoldable pub ends_with : Bytes → Bool → Bool
+ends_with [] more = not more
+ends_with (x ∷ s) more = not (eqb (break_width (x ∷ s)) 0)

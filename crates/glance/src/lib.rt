@@ -3,10 +3,9 @@
 #![tactic(auto)]
 
 ghost use Rattle.std.specs.Prelude.{◌≡◌, ◌+◌, ◌≤◌, length, drop};
-ghost use Rattle.glance.specs.FixedLines.{gone_past, fourth_start};
+ghost use Rattle.glance.specs.FixedLines.{gone_past, fourth_start, ends_with};
 ghost use Rattle.glance.specs.Glance.{look, glance, account_as};
 
-use lines::line_at;
 use swiss::Edition;
 use swiss_rules::account;
 
@@ -65,8 +64,26 @@ fn fourth_start(head: &[u8]) -> usize
     gone_past(head, third, &Edition::CODING)
 }
 
-// Line 4 of these bytes, if lines 1 to 4 are whole and break none of their rules. The line finder is asked for line 4
-// alone, and only behind the three fixed lines.
+// Whether a line ends at a place: a break stands there; or the bytes end there, and there are no more.
+fn ends_at(head: &[u8], at: usize, more: bool) -> bool
+    requires { at ≤ length head.now }
+    ensures { result ≡ ends_with (drop at head.now) more }
+{
+    if at == head.len() {
+        return !more;
+    }
+    if head[at] == 10 {
+        return true;
+    }
+    if at + 1 == head.len() {
+        return false;
+    }
+    (head[at] == 13) & (head[at + 1] == 10)
+}
+
+// Line 4 of these bytes, if lines 1 to 4 are whole and break none of their rules. No line is searched for: behind the three
+// fixed lines 21 bytes are an IBAN or not, and where they are, no break is among them, so that line 4 ends behind them or is
+// longer.
 fn look(head: &[u8], more: bool) -> Account
     ensures { result ≡ account_as (look head.now more) }
 {
@@ -77,13 +94,13 @@ fn look(head: &[u8], more: bool) -> Account
     if start == 0 {
         return Account::Unknown;
     }
-    let fourth = line_at(head, start);
-    let end = fourth.end;
+    let end = start + Edition::IBAN_LENGTH;
+    if head.len() < end {
+        return Account::Unknown;
+    }
     let found = account(&head[start..end]);
-    let ended = !(more & (fourth.next == end));
-    if (found.number == 0) & ended {
-        let bytes = end - start;
-        return Account::At(start, bytes);
+    if (found.number == 0) & ends_at(head, end, more) {
+        return Account::At(start, Edition::IBAN_LENGTH);
     }
     Account::Unknown
 }
@@ -93,9 +110,7 @@ fn look(head: &[u8], more: bool) -> Account
 pub fn glance(payload: &[u8]) -> Account
     ensures { result ≡ account_as (glance payload.now) }
 {
-    if LOOKED < payload.len() {
-        look(&payload[0..LOOKED], true)
-    } else {
-        look(payload, false)
-    }
+    let more = LOOKED < payload.len();
+    let end = if more { LOOKED } else { payload.len() };
+    look(&payload[0..end], more)
 }

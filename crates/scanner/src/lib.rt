@@ -18,16 +18,17 @@ const TOO_MANY: usize = 998;
 pub fn hand_over(held: &mut [u8], length: usize, bit: &[u8]) -> usize
     ensures { held_in held.new result ≡ handed_over (held_in held.old length) bit.now }
 {
-    if Edition::MOST_BYTES < length {
+    let mut most = Edition::MOST_BYTES;
+    if held.len() < most {
+        most = held.len();
+    }
+    if most < length {
         return TOO_MANY;
     }
-    if Edition::MOST_BYTES - length < bit.len() {
+    if most - length < bit.len() {
         return TOO_MANY;
     }
     let together = length + bit.len();
-    if held.len() < together {
-        return TOO_MANY;
-    }
     lay(&mut held[length..], bit);
     together
 }

@@ -1,13 +1,18 @@
 -- `glance::glance` meets its contract: of a longer payload the first 37 bytes are looked at, of any other all. Assumes nothing.
-use lib.Seq.{take_all}
-use borrow.Author.Tests.{lt-ltb, le-ltb}
-use Rattle.glance.specs.Glance.{glance}
+use native.Mathlib.Nat.{sub-zero}
+use mathlib.Core.Path.{◌≡◌, sym, ◌∙◌}
+use lib.ListN.{take}
+use lib.Seq.{take_all, take-length}
+use Rattle.glance.specs.Glance.{looked, glance}
 use Rattle.glance.proofs.glance.Goals as goal
+use Rattle.glance.proofs.glance.Goals.{Joined-more, then-more, else-more}
 
-pub returns-then-payload-gt-LOOKED : goal.returns-then-payload-gt-LOOKED
-unfolding glance
-returns-then-payload-gt-LOOKED c = rw (lt-ltb _ _ c.if-payload-gt-LOOKED.true) c.look.ensures
+-- the bytes up to the end that the code takes are those that are looked at
+chosen : (c : Joined-more) → take c.if-more.end c.args.payload.now ≡ take looked c.args.payload.now
+chosen c =
+    let p = c.args.payload.now in
+    elim c.if-more.branch [ then-more w ↦ rw w.end-is | else-more w ↦ rw w.end-is (take-length p ∙ sym (take_all looked p w.if-more.false)) ]
 
-pub returns-else-payload-gt-LOOKED : goal.returns-else-payload-gt-LOOKED
+pub returns : goal.returns
 unfolding glance
-returns-else-payload-gt-LOOKED c = rw (le-ltb _ _ c.if-payload-gt-LOOKED.false, take_all _ _ c.if-payload-gt-LOOKED.false) c.look-else-payload-gt-LOOKED.ensures
+returns c = rw (sub-zero c.if-more.end, chosen (goal.at.returns c).Joined-more) at c.look.ensures
