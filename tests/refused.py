@@ -25,6 +25,7 @@ import re
 import shutil
 import subprocess
 import sys
+import tempfile
 from pathlib import Path
 
 sys.path.insert(0, str(Path(__file__).resolve().parent / 'lib'))
@@ -35,7 +36,6 @@ from wrong_programs import changed_functions, edits, function_at_line, programs_
 
 LOGS = ROOT / 'target' / 'must-fail'
 SAID = ROOT / 'target' / 'ci.log'
-TRIES = ROOT / 'target' / 'tries'
 
 # The prover says of a refusal where it stands, and what is wrong there.
 REFUSAL = re.compile(r'^(?:note: )?(?P<file>\S+?):(?P<line>\d+):\d+: (?P<error>error: )?(?P<wrong>.*)', re.MULTILINE)
@@ -92,7 +92,7 @@ def place_of(refusal, check):
     if found := PROOF.match(file):
         return found['function']
     if file.startswith('src/'):
-        return function_at_line((LOGS / check / file).read_text('utf-8'), int(refusal['line']))
+        return function_at_line((LOGS / check / f'{file}.txt').read_text('utf-8'), int(refusal['line']))
     return file
 
 
@@ -165,16 +165,16 @@ def checks_of_log():
             yield f'{edit} is refused first at', place, places[edit]
 
 
-def try_in_copy(names):
-    """Try wrong programs in a copy, and keep all that the prover says of each."""
-    shutil.rmtree(TRIES, ignore_errors=True)
+def try_in_copy(names, tries):
+    """Try wrong programs in a copy, and keep all that the prover says of each, with the sources that it
+    says it of. (They end in .txt: `rt ci` has no source stand outside a crate.)"""
     shutil.rmtree(LOGS, ignore_errors=True)
-    shutil.copytree(CRATES, TRIES / 'crates')
-    shutil.copy(ROOT / 'crates.txt', TRIES)
+    shutil.copytree(CRATES, tries / 'crates')
+    shutil.copy(ROOT / 'crates.txt', tries)
     for edit in edits():
         if names and named(edit) not in names:
             continue
-        crate = TRIES / 'crates' / edit.parent.parent.name
+        crate = tries / 'crates' / edit.parent.parent.name
         kept = {}
         for program in programs_of(edit):
             for change in program.replacements:
@@ -183,17 +183,18 @@ def try_in_copy(names):
                 (crate / change.file).write_text(text.replace(change.old, change.new), 'utf-8')
         ran = subprocess.run(['rt', 'check'], cwd=crate, stdin=subprocess.DEVNULL, stdout=subprocess.PIPE,
                              stderr=subprocess.STDOUT, text=True, check=False)
-        folder = LOGS / named(edit)
-        (folder / 'src').mkdir(parents=True)
-        shutil.copytree(crate / 'src', folder / 'src', dirs_exist_ok=True)
-        (folder / '.log').write_text(ran.stdout, 'utf-8')
+        for source in (crate / 'src').glob('**/*.rt'):
+            copy = LOGS / named(edit) / f'{source.relative_to(crate)}.txt'
+            copy.parent.mkdir(parents=True, exist_ok=True)
+            shutil.copy(source, copy)
+        (LOGS / named(edit) / '.log').write_text(ran.stdout, 'utf-8')
         for file, text in kept.items():
             (crate / file).write_text(text, 'utf-8')
-    shutil.rmtree(TRIES)
 
 
 if __name__ == '__main__':
     if sys.argv[1:2] == ['--try']:
-        try_in_copy(sys.argv[2:])
+        with tempfile.TemporaryDirectory() as folder:
+            try_in_copy(sys.argv[2:], Path(folder))
         sys.exit(told(checks_of_all()))
     sys.exit(told(checks_of_log()))
