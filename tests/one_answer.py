@@ -39,7 +39,9 @@ NAMED_CONTRACT = re.compile(rf'\b(?:fn|contracts)\.{METHOD_OF}(\w+)\.(?:Reads\.L
 OWN_READINGS = {('viewer', name) for name in ('open', 'done', 'line', 'next')}
 # Functions that hand out a part of what they were lent. Two such parts are compared by what a
 # program has of them, and not by the ghost name of the reference (docs/ONE_ANSWER.md).
-PARTS = {('viewer', 'line'), ('viewer', 'line_after'), ('places', 'line')}
+PARTS = {('viewer', 'line'), ('viewer', 'line_after'), ('places', 'line'), ('pile', 'bill')}
+# Functions that read an input: what they answer hangs on what comes, and not on their arguments alone.
+OF_INPUT = {('intake', 'read_all')}
 
 
 class Function(NamedTuple):
@@ -100,18 +102,24 @@ def public_text(crate):
 
 
 def is_of_form(function, statement):
-    """Whether a theorem says that the function's contract, and no other, leaves one answer."""
+    """Whether a theorem says that the function's contract, and no other, leaves one answer: of a generic
+    function, at each type."""
     key = function.crate, function.name
     if key in PARTS:
         return True
-    reading = r'\w+' if key in OWN_READINGS else rf'fn\.{METHOD_OF}{function.name}\.Reads\.Learnt'
-    form = rf'\s*OneAnswer contracts\.{METHOD_OF}{function.name}\.ended {reading}\s*'
-    return re.fullmatch(form, statement) is not None
+    contract = rf'contracts\.{METHOD_OF}{function.name}\.ended'
+    reading = rf'fn\.{METHOD_OF}{function.name}\.Reads\.Learnt'
+    at_a_type = r'(?:\(\w+ : [\w. ]+\) )+→ '
+    generic = rf'\s*{at_a_type}OneAnswer \({contract}(?: \w+)+\) \({reading}(?: \w+)+\)\s*'
+    own = r'\w+' if key in OWN_READINGS else reading
+    plain = rf'\s*OneAnswer {contract} {own}\s*'
+    return re.fullmatch(generic, statement) is not None or re.fullmatch(plain, statement) is not None
 
 
 def public_functions(crate):
-    """The public functions of a library, in the order of its source."""
-    return [Function(crate, *found) for found in PUBLIC_FUNCTION.findall(public_text(crate))]
+    """The public functions of a library whose answer their arguments leave, in the order of its source."""
+    functions = [Function(crate, *found) for found in PUBLIC_FUNCTION.findall(public_text(crate))]
+    return [function for function in functions if (crate, function.name) not in OF_INPUT]
 
 
 def proof_text(crate):

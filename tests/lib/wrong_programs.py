@@ -16,7 +16,7 @@ from claims import CRATES
 
 HEAD = re.compile(r'^# (?P<function>\w+), (?P<name>\w+): \S')
 SHOWN = re.compile(r'^# On (?P<question>.+) it answers "(?P<wrong>.*)"; right is "(?P<right>.*)"\.$')
-FUNCTION = re.compile(r'^(?P<indent> *)(?:pub )?(?:extern "C" )?fn (?P<name>\w+)', re.MULTILINE)
+FUNCTION = re.compile(r'^(?P<indent> *)(?:#\[.*\]\n *)*(?:pub )?(?:extern "C" )?fn (?P<name>\w+)', re.MULTILINE)
 
 
 class Replacement(NamedTuple):

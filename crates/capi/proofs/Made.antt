@@ -6,9 +6,8 @@ use mathlib.Core.Path.{◌≡◌, refl, ap, ◌∙◌}
 use lib.Dec.{ltb, lit≤}
 use lib.ListN.{length}
 use borrow.Author.Tests.{ltb-true, ltb-false}
-use Rattle.sieve.specs.declared.Written.{Written}
+use Rattle.sieve.specs.Paper.{Written, paper_written}
 use Rattle.sieve.specs.Bytes.{Bytes}
-use Rattle.sieve.specs.Paper.{paper_written}
 use Rattle.packing.specs.Packing.{packed_laying, PacksLaying}
 use Rattle.making.specs.Making.{IsMade}
 use Rattle.making.proofs.Promise.{one_making, not_formed, no_room, is_laid}

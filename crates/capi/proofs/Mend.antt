@@ -1,4 +1,5 @@
 -- What is answered of a mended payload, packed, is what the call has to answer. Assumes nothing.
+use Rattle.std.specs.Prelude.{Ok, Err}
 use Prim.Native.Nat.{ℕ, ◌-◌, ◌≤◌, ◌<◌}
 use native.Mathlib.Omega.{arith}
 use mathlib.Core.List.{List, [], ◌∷◌, ◌++◌}
@@ -22,7 +23,6 @@ use Rattle.packing.specs.Packing.{packed_refusal}
 use Rattle.packing.specs.Telling.{room_beside}
 use Rattle.packing.proofs.Telling.{beside, lent_length}
 use Rattle.mender.specs.declared.Repairs.{Repairs}
-use Rattle.mender.specs.declared.Mended.TheVariants.{Length, Refused}
 use Rattle.mender.specs.Mending.{most_mended, mend, mend_findings, IsMended}
 use Rattle.mender.proofs.Promise.{refusal_changes_nothing, written_so}
 use Rattle.capi.specs.Calls.{told_repairs, mend_told, IsPackedMended}
@@ -40,7 +40,7 @@ low_findings p bytes room =
     (each_first {P = Low} reader (last ∷ []) (λ r e. (small_findings swiss_serves bytes r e).line)
     (each_first {P = Low} last [] (each_found Low (ltb room (length bytes)) (under 15 0) (lit≤ tt)) none_of_none))
 
-pub low_line : {p dest : Bytes} {f : Fault} {after : Bytes} → IsMended p dest (Refused f) after → (paper_fault f).line < 1000
+pub low_line : {p dest : Bytes} {f : Fault} {after : Bytes} → IsMended p dest (Err f) after → (paper_fault f).line < 1000
 low_line {p} {dest} {f} h = low_findings p (mend p).bytes (length dest) (paper_fault f) (refusal_changes_nothing h).is_found
 
 -- no bytes are found by the reader, before room is asked for
@@ -61,13 +61,13 @@ module _ (p dest : Bytes) (list : List ℕ) (room : ℕ) (is-room : room ≡ roo
       ap (λ (n : ℕ). first (mend_findings p (x ∷ s) n)) (lent_length dest (length list) 3 room is-room ∙ is-room)
       ∙ beside (found (ltb most_mended (length p)) (under 2 0) ∷ first (findings swiss (x ∷ s)) ∷ []) (length (x ∷ s)) (length dest) (length list) 3 (omega arith)
 
-  pub refused_told : {f : Fault} {after : Bytes} {n : ℕ} → IsMended p part (Refused f) after → n ≡ packed_refusal (paper_fault f) → IsPackedMended p dest list n (put_mid 0 (room - 0) dest after) list
+  pub refused_told : {f : Fault} {after : Bytes} {n : ℕ} → IsMended p part (Err f) after → n ≡ packed_refusal (paper_fault f) → IsPackedMended p dest list n (put_mid 0 (room - 0) dest after) list
   unfolding mend_told
   refused_told h e =
       let so = refusal_changes_nothing h in
       nothing_told dest list 3 room is-room (mend p).bytes (told_repairs (mend p).repairs) (sym (found_alike (mend p).bytes) ∙ so.is_found) so.unchanged e
 
-  pub written_told : {c : Repairs} {after : Bytes} {m n : ℕ} {l : List ℕ} → IsMended p part (Length m c) after → n ≡ m → l ≡ over_fitting list (told_repairs c) → IsPackedMended p dest list n (put_mid 0 (room - 0) dest after) l
+  pub written_told : {c : Repairs} {after : Bytes} {m n : ℕ} {l : List ℕ} → IsMended p part (Ok (m, c)) after → n ≡ m → l ≡ over_fitting list (told_repairs c) → IsPackedMended p dest list n (put_mid 0 (room - 0) dest after) l
   unfolding mend_told mend_findings
   written_told {c} h e filled =
       let so = written_so h in

@@ -1,4 +1,5 @@
 -- What is answered of a season, packed, is what the call has to answer: it lends the front of its list, and none of it where there is no room for the sums. Assumes nothing.
+use Rattle.std.specs.Prelude.{Ok, Err}
 use Prim.Native.Nat.{ℕ, ◌-◌, ◌≤◌, ◌<◌}
 use native.Mathlib.Omega.{arith}
 use mathlib.Core.List.{List, [], ◌∷◌, ◌++◌}
@@ -17,7 +18,6 @@ use Rattle.packing.specs.Packing.{packed_refusal}
 use Rattle.packing.specs.Telling.{room_beside}
 use Rattle.packing.proofs.Telling.{beside_stops, beside_enough, beside_short, lent_on, lent_length, laid_back}
 use Rattle.pile.specs.Pile.{place_findings}
-use Rattle.season.specs.declared.Tried.TheVariants.{Listed, Refused}
 use Rattle.season.specs.Season.{differing, season_findings, IsTried}
 use Rattle.season.proofs.Promise.{refused_found, refusal_changes_nothing, gives, within_room, one_each_at_most}
 use Rattle.capi.specs.Calls.{season_answer, IsPackedTried}
@@ -53,13 +53,13 @@ module _ (buffer : Bytes) (places : List ℕ) (count : ℕ) (list sums : List �
   stays : {after : List ℕ} → after ≡ part → put_mid 0 (room - 0) list after ≡ list
   stays e = ap (put_mid 0 (room - 0) list) e ∙ put_same 0 (room - 0) list
 
-  pub refused_packed : {f : Fault} {after : List ℕ} {n : ℕ} → IsTried buffer places count part (Refused f) after → n ≡ packed_refusal (paper_fault f) → IsPackedTried buffer places count list sums n (put_mid 0 (room - 0) list after) sums
+  pub refused_packed : {f : Fault} {after : List ℕ} {n : ℕ} → IsTried buffer places count part (Err f) after → n ≡ packed_refusal (paper_fault f) → IsPackedTried buffer places count list sums n (put_mid 0 (room - 0) list after) sums
   unfolding season_answer place_findings
   refused_packed {f} h e =
       let found : all ≡ some (paper_fault f) = beside_stops (place_findings buffer places count) count (length list) (length sums) 2 (sym of_part ∙ refused_found h) in
       record { number = rw found e; lent = rw found (stays (refusal_changes_nothing h)); told = rw found }
 
-  module _ {n c e : ℕ} {after : List ℕ} (h : IsTried buffer places count part (Listed n c e) after) where
+  module _ {n c e : ℕ} {after : List ℕ} (h : IsTried buffer places count part (Ok (record { listed = n; francs = c; euros = e })) after) where
     nothing : partly ≡ none
     nothing = sym of_part ∙ (gives h).nothing
 

@@ -1,4 +1,5 @@
 -- What is answered of SWIFT fields, packed, is what the call has to answer. Assumes nothing.
+use Rattle.std.specs.Prelude.{Ok, Err}
 use Prim.Native.Nat.{ℕ, ◌-◌, ◌≤◌, ◌<◌}
 use mathlib.Core.List.{List, [], ◌∷◌, ◌++◌}
 use mathlib.Core.Option.{none, none-ne-some}
@@ -24,7 +25,6 @@ use Rattle.packing.specs.Packing.{packed_refusal}
 use Rattle.packing.specs.Telling.{room_beside}
 use Rattle.packing.proofs.Telling.{beside, lent_length}
 use Rattle.swift.specs.declared.Counts.{Counts}
-use Rattle.swift.specs.declared.Mapped.TheVariants.{Laid, Refused}
 use Rattle.swift.specs.Fields.{contents, counts_of}
 use Rattle.swift.specs.Answering.{no_amount_refusal, field_findings, IsMapped}
 use Rattle.swift.specs.Promised.{AreSmall}
@@ -53,11 +53,11 @@ low_findings p room =
     (each_first {P = Low} (no_amount_refusal ls) (last ∷ []) (each_found Low (is_empty 19 ls) (under 16 19) (lit≤ tt))
     (each_first {P = Low} last [] (each_found Low (ltb room (length (contents ls))) (under 15 0) (lit≤ tt)) none_of_none))
 
-pub low_line : {p dest : Bytes} {f : Fault} {after : Bytes} → IsMapped swiss p dest (Refused f) after → (paper_fault f).line < 1000
+pub low_line : {p dest : Bytes} {f : Fault} {after : Bytes} → IsMapped swiss p dest (Err f) after → (paper_fault f).line < 1000
 low_line {p} {dest} {f} h = low_findings p (length dest) (paper_fault f) (refused_found h)
 
 -- what is laid is counted by few bits
-pub few_told : {p dest : Bytes} {c : Counts} {after : Bytes} → IsMapped swiss p dest (Laid c) after → AreSmall c × (c.bytes ≤ 368)
+pub few_told : {p dest : Bytes} {c : Counts} {after : Bytes} → IsMapped swiss p dest (Ok c) after → AreSmall c × (c.bytes ≤ 368)
 unfolding field_findings swiss
 few_told {p} {dest} h =
     let (told, _) = laid_in_front h in
@@ -78,11 +78,11 @@ module _ (p dest : Bytes) (list : List ℕ) (room : ℕ) (is-room : room ≡ roo
       ap (λ (n : ℕ). first (field_findings swiss p n)) (lent_length dest (length list) 5 room is-room ∙ is-room)
       ∙ beside (first (findings swiss p) ∷ no_amount_refusal ls ∷ []) (length (contents ls)) (length dest) (length list) 5 (some_content ls)
 
-  pub refused_told : {f : Fault} {after : Bytes} {n : ℕ} → IsMapped swiss p part (Refused f) after → n ≡ packed_refusal (paper_fault f) → IsPackedFields swiss p dest list n (put_mid 0 (room - 0) dest after) list
+  pub refused_told : {f : Fault} {after : Bytes} {n : ℕ} → IsMapped swiss p part (Err f) after → n ≡ packed_refusal (paper_fault f) → IsPackedFields swiss p dest list n (put_mid 0 (room - 0) dest after) list
   unfolding swift_answer
   refused_told h e = nothing_told dest list 5 room is-room (contents ls) (told_counts (counts_of ls)) (sym found_alike ∙ refused_found h) (refusal_changes_nothing h) e
 
-  pub laid_told : {c : Counts} {after : Bytes} {n : ℕ} {l : List ℕ} → IsMapped swiss p part (Laid c) after → n ≡ c.bytes → l ≡ over_fitting list (told_counts c) → IsPackedFields swiss p dest list n (put_mid 0 (room - 0) dest after) l
+  pub laid_told : {c : Counts} {after : Bytes} {n : ℕ} {l : List ℕ} → IsMapped swiss p part (Ok c) after → n ≡ c.bytes → l ≡ over_fitting list (told_counts c) → IsPackedFields swiss p dest list n (put_mid 0 (room - 0) dest after) l
   unfolding swift_answer field_findings
   laid_told {c} h e filled =
       let nothing = laid_found_nothing h in

@@ -1,5 +1,5 @@
 -- What the calls for C answer of the account, of a number that is made, of a pile, of a season, of SWIFT fields, and of a payload that is mended. Assumes nothing.
-use Rattle.std.specs.Prelude.{ℕ, Bool, List, [], ◌∷◌, ◌++◌, ◌≡◌, length}
+use Rattle.std.specs.Prelude.{ℕ, Bool, Some, None, List, [], ◌∷◌, ◌++◌, ◌≡◌, length}
 use Rattle.std.proofs.Math.Option.{Option, some, none}
 use Rattle.std.specs.Borrow.{Bor, MutBor}
 use denote.Triple.Both.{Both}
@@ -11,8 +11,7 @@ use Rattle.sieve.specs.Verdict.{Refusal, first}
 use Rattle.sieve.specs.Writing.{handed}
 use Rattle.swiss.specs.declared.Edition.TheVariants.{V24}
 use Rattle.swiss.specs.Limits.{francs, euros}
-use Rattle.glance.specs.declared.Account.{Account}
-use Rattle.glance.specs.declared.Account.TheVariants.{Unknown, At}
+use Rattle.lines.specs.declared.Place.{Place}
 use Rattle.packing.specs.Packing.{packed_refusal, packed_place, packed_laying}
 use Rattle.making.specs.Made.{qrr_part, made_qrr, scor_part, made_scor, iban_parts, made_iban}
 use Rattle.making.specs.Making.{make_answer}
@@ -26,9 +25,9 @@ use Rattle.swift.specs.Fields.{contents, counts_of}
 use Rattle.swift.specs.Answering.{field_findings}
 
 -- where the account stands; 0 where it is not known
-abbrev pub packed_account : Account → ℕ
-packed_account Unknown = 0
-packed_account (At start bytes) = packed_place start bytes
+abbrev pub packed_account : Rattle.std.specs.Prelude.Option Place → ℕ
+packed_account None = 0
+packed_account (Some place) = packed_place place.start place.bytes
 
 -- whether the parts are of their form, what is made of them and a destination: the number r and the destination afterwards
 pub record IsPackedMade (formed : Bool) (made dest : Bytes) (r : ℕ) (after : Bytes) : Type 0 where

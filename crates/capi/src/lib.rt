@@ -16,20 +16,20 @@ ghost use Rattle.mender.specs.Promised.{AreFew};
 ghost use Rattle.swift.specs.Promised.{AreSmall};
 ghost use Rattle.scanner.specs.Scanning.{held_in, handed_over};
 
-use glance::{Account, glance};
+use glance::glance;
 use making::{make_iban, make_qrr, make_scor};
-use mender::{Mended, Repairs, mend};
+use mender::{Repairs, mend};
 use packing::{
     break_for, packed_answer, packed_laying, packed_line, packed_place, packed_refusal,
     packed_verdict, room_beside, told_count,
 };
-use pile::{Piled, pile};
+use pile::pile;
 use reader::read;
-use runs::fill;
+use runs::lay;
 use scanner::hand_over;
-use season::{Tried, season};
+use season::season;
 use sieve::{Fault, WALK_NUMBERS};
-use swift::{Counts, Mapped, fields};
+use swift::{Counts, fields};
 use swiss::Edition;
 use swiss_judge::{judge, verdict};
 use writer::write;
@@ -68,8 +68,8 @@ pub extern "C" fn qrbill_glance(payload: &[u8]) -> u32
     ensures { result ≡ packed_account (account_as (glance payload.now)) }
 {
     match glance(payload) {
-        Account::At(start, bytes) => packed_place(start as u16, bytes as u16),
-        Account::Unknown => 0,
+        Some(place) => packed_place(place.start as u16, place.bytes as u16),
+        None => 0,
     }
 }
 
@@ -132,8 +132,8 @@ pub extern "C" fn qrbill_pile(buffer: &[u8], places: &[u32], count: u32, answers
     ensures { IsPackedPiledTo buffer places count answers result }
 {
     match pile(buffer, places, count as usize, Edition::V24, answers) {
-        Piled::Done => 0,
-        Piled::Refused(fault) => packed_refusal(fault),
+        Ok(()) => 0,
+        Err(fault) => packed_refusal(fault),
     }
 }
 
@@ -152,14 +152,14 @@ pub extern "C" fn qrbill_season(
 {
     let room = room_beside(list.len(), sums.len(), 2);
     match season(buffer, places, count as usize, &mut list[0..room]) {
-        Tried::Refused(fault) => packed_refusal(fault),
-        Tried::Listed(n, francs, euros) => {
+        Err(untried) => packed_refusal(untried),
+        Ok(tried) => {
             if sums.len() < 2 {
                 return packed_refusal(Fault::NoRoom);
             }
-            sums[0] = francs;
-            sums[1] = euros;
-            n as u32
+            sums[0] = tried.francs;
+            sums[1] = tried.euros;
+            tried.listed as u32
         }
     }
 }
@@ -186,9 +186,9 @@ pub extern "C" fn qrbill_swift(payload: &[u8], dest: &mut [u8], list: &mut [u16]
 {
     let room = room_beside(dest.len(), list.len(), 5);
     match fields(payload, Edition::V24, &mut dest[0..room]) {
-        Mapped::Refused(fault) => packed_refusal(fault),
-        Mapped::Laid(counts) => {
-            fill(list, &told_counts(counts));
+        Err(unmapped) => packed_refusal(unmapped),
+        Ok(counts) => {
+            lay(list, &told_counts(counts));
             counts.bytes as u32
         }
     }
@@ -223,9 +223,9 @@ pub extern "C" fn qrbill_mend(payload: &[u8], dest: &mut [u8], list: &mut [u16])
 {
     let room = room_beside(dest.len(), list.len(), 3);
     match mend(payload, &mut dest[0..room]) {
-        Mended::Refused(fault) => packed_refusal(fault),
-        Mended::Length(bytes, repairs) => {
-            fill(list, &told_repairs(repairs));
+        Err(unmended) => packed_refusal(unmended),
+        Ok((bytes, repairs)) => {
+            lay(list, &told_repairs(repairs));
             bytes as u32
         }
     }

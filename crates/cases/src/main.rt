@@ -22,10 +22,9 @@
 
 ghost use Rattle.std.specs.Prelude.{◌≤◌, ◌<◌};
 
-use pile::Piled;
 use scanner::Scan;
-use sieve::{Answer, Break, Fault, Written, line_of, number_of};
-use swift::{Counts, Mapped};
+use sieve::{Answer, Break, Fault, Written, line_of, number_of, place_of};
+use swift::Counts;
 use swiss::Edition;
 
 // The descriptors.
@@ -42,16 +41,8 @@ fn write_told(number: usize, line: usize, place: usize) {
     io::write_all(STDOUT, b"\n");
 }
 
-// The place that a refusal keeps beside its line; 0 where it keeps none.
-fn place_of(f: Fault) -> usize {
-    match f {
-        Fault::BadCharacter(_, place) => place,
-        _ => 0,
-    }
-}
-
 fn write_fault(f: Fault) {
-    write_told(number_of(f) as usize, line_of(f), place_of(f));
+    write_told(number_of(f) as usize, line_of(f), place_of(f).unwrap_or(0));
 }
 
 fn kind_of(k: Break) -> usize {
@@ -63,15 +54,15 @@ fn kind_of(k: Break) -> usize {
 
 fn write_answer(answer: Answer) {
     match answer {
-        Answer::Accepted(count, k) => write_told(0, count, kind_of(k)),
-        Answer::Refused(f) => write_fault(f),
+        Ok((count, k)) => write_told(0, count, kind_of(k)),
+        Err(f) => write_fault(f),
     }
 }
 
 fn write_written(w: Written) {
     match w {
-        Written::Length(n) => write_told(0, n, 0),
-        Written::Refused(f) => write_fault(f),
+        Ok(n) => write_told(0, n, 0),
+        Err(f) => write_fault(f),
     }
 }
 
@@ -99,12 +90,21 @@ const MOST_MOVES: usize = 64;
 // More than any caller makes one by one: what a viewer hands out then takes no longer, and no more room.
 const MANY_MOVES: usize = 1000000;
 
+// Writes what a viewer hands out until it is done, and answers how many moves lead there.
+fn write_until_done(payload: &[u8]) -> usize
+    ensures { result ≤ 64 }
+{
+    for moves in 0..MOST_MOVES {
+        if !write_after(payload, moves) {
+            return moves;
+        }
+    }
+    MOST_MOVES
+}
+
 // Writes what a viewer hands out until it is done, one move after that, and after a million moves.
 fn write_view(payload: &[u8]) {
-    let mut moves = 0;
-    while moves < MOST_MOVES && write_after(payload, moves) {
-        moves += 1;
-    }
+    let moves = write_until_done(payload);
     write_after(payload, moves + 1);
     write_after(payload, MANY_MOVES);
     io::write_all(STDOUT, b"\n");
@@ -115,31 +115,24 @@ fn run_reading(payload: &[u8], edition: Edition) {
     write_answer(reader::read(payload, edition, &mut list));
 }
 
-fn wide(x: u8) -> usize
-    ensures { result < 256 }
-{
-    x as usize
-}
-
+// The number of two bytes, the low one first.
 fn pair(low: u8, high: u8) -> usize
     ensures { result < 65536 }
 {
-    wide(low) + 256 * wide(high)
+    u16::from_le_bytes([low, high]) as usize
 }
 
-// The number of two bytes, the low one first, that stands behind i others; 0 past the last.
+// The number of two bytes that stands behind i others; 0 past the last.
 fn number_at(bytes: &[u8], i: usize) -> u16 {
     if i < bytes.len() / 2 {
-        return pair(bytes[2 * i], bytes[2 * i + 1]) as u16;
+        return u16::from_le_bytes([bytes[2 * i], bytes[2 * i + 1]]);
     }
     0
 }
 
 fn fill(list: &mut [u16], bytes: &[u8]) {
-    let mut i = 0;
-    while i < list.len() {
-        list[i] = number_at(bytes, i);
-        i += 1;
+    for (i, number) in list.iter_mut().enumerate() {
+        *number = number_at(bytes, i);
     }
 }
 
@@ -183,22 +176,14 @@ fn run_writing(call: &[u8], edition: Edition) {
     run_call(call, edition, &mut list, &mut dest);
 }
 
-fn at_most(size: usize, most: usize) -> usize
-    ensures { result ≤ most }
-{
-    if most < size { most } else { size }
-}
-
 // Hands over a payload, in bits as long as the numbers say.
 fn scanned(sizes: &[u8], payload: &[u8]) -> Scan {
     let mut scan = Scan::begin();
     let mut at = 0;
-    let mut i = 0;
-    while i < sizes.len() / 2 {
-        let to = at + at_most(number_at(sizes, i) as usize, payload.len() - at);
+    for i in 0..sizes.len() / 2 {
+        let to = at + (number_at(sizes, i) as usize).min(payload.len() - at);
         scan = scan.hand(&payload[at..to]);
         at = to;
-        i += 1;
     }
     scan
 }
@@ -209,10 +194,8 @@ fn write_number(n: u16) {
 }
 
 fn write_list(list: &[u16]) {
-    let mut i = 0;
-    while i < list.len() {
-        write_number(list[i]);
-        i += 1;
+    for n in list {
+        write_number(*n);
     }
     io::write_all(STDOUT, b"\n");
 }
@@ -243,8 +226,8 @@ fn write_mapped(counts: Counts, dest: &[u8]) {
 fn run_mapping(payload: &[u8], edition: Edition) {
     let mut dest = [0u8; 320];
     match swift::fields(payload, edition, &mut dest) {
-        Mapped::Refused(f) => write_fault(f),
-        Mapped::Laid(counts) => write_mapped(counts, &dest),
+        Err(f) => write_fault(f),
+        Ok(counts) => write_mapped(counts, &dest),
     }
 }
 
@@ -271,8 +254,8 @@ fn run_piling(record: &[u8], edition: Edition) {
     let mut answers = [0u16; 8];
     let count = pair(record[0], record[1]);
     match pile::pile(&record[18..], &places, count, edition, &mut answers) {
-        Piled::Refused(f) => write_fault(f),
-        Piled::Done => write_list(&answers),
+        Err(f) => write_fault(f),
+        Ok(()) => write_list(&answers),
     }
 }
 
@@ -305,8 +288,8 @@ fn run(record: &[u8]) {
     }
 }
 
-fn length_of(head: &[u8; 4]) -> usize {
-    pair(head[0], head[1]) + 65536 * pair(head[2], head[3])
+fn length_of(head: [u8; 4]) -> usize {
+    u32::from_le_bytes(head) as usize
 }
 
 // Fills the slice with what comes next, and runs it as a record; false where there is less.
@@ -324,7 +307,7 @@ fn run_next(buffer: &mut [u8]) -> bool {
     if io::read_full(STDIN, &mut head) < 4 {
         return false;
     }
-    let n = length_of(&head);
+    let n = length_of(head);
     if buffer.len() < n {
         return false;
     }
@@ -336,10 +319,11 @@ fn run_one() -> bool {
     run_next(&mut buffer)
 }
 
-// A proved loop has to end, and nothing says that the input does, so the loop counts its turns down.
+// A proved loop has to end, and nothing says that the input does, so the turns are counted.
 fn main() {
-    let mut turns = u64::MAX;
-    while turns > 0 && run_one() {
-        turns -= 1;
+    for _ in 0..u64::MAX {
+        if !run_one() {
+            return;
+        }
     }
 }

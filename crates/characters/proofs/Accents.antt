@@ -2,7 +2,7 @@
 use Prim.Native.Nat.{ℕ, suc, ◌+◌, ◌≤◌, ◌<◌}
 use native.Mathlib.Omega.{arith}
 use mathlib.Core.Bool.{Bool, true, false, ◌&&◌, and-false, or-true, and-eq-true_iff}
-use mathlib.Core.List.{◌∷◌}
+use mathlib.Core.List.{[], ◌∷◌, ◌++◌}
 use mathlib.Core.Path.{◌≡◌, refl, ap, ◌∙◌}
 use lib.ListN.{length, get_or, drop, drop_of_length-le}
 use lib.Dec.{ltb, leb}
@@ -16,6 +16,28 @@ use Rattle.characters.specs.Runs.{accents}
 -- C3, C4 or C5 then 80 to BF
 abbrev pub accent : ℕ → ℕ → Bool
 accent x y = within 0xC3 0xC5 x && within 0x80 0xBF y
+
+-- two bytes, and those behind them
+pub accent_first : (two t : Bytes) → length two ≡ 2 → accent (get_or two 0 0) (get_or two 1 0) ≡ true → accents (two ++ t) ≡ suc (accents t)
+unfolding accents
+accent_first [] t size e = absurd (omega arith)
+accent_first (x ∷ []) t size e = absurd (omega arith)
+accent_first (x ∷ y ∷ []) t size e = rw e
+accent_first (x ∷ y ∷ z ∷ two) t size e = absurd (omega arith)
+
+pub other_first : (two t : Bytes) → length two ≡ 2 → accent (get_or two 0 0) (get_or two 1 0) ≡ false → accents (two ++ t) ≡ 0
+unfolding accents
+other_first [] t size e = absurd (omega arith)
+other_first (x ∷ []) t size e = absurd (omega arith)
+other_first (x ∷ y ∷ []) t size e = rw e
+other_first (x ∷ y ∷ z ∷ two) t size e = absurd (omega arith)
+
+-- and fewer than two bytes
+pub too_short : (s : Bytes) → length s < 2 → accents s ≡ 0
+unfolding accents
+too_short [] h = refl
+too_short (x ∷ []) h = refl
+too_short (x ∷ y ∷ s) h = absurd (omega arith)
 
 module _ (s : Bytes) (at : ℕ) where
   two : at + 1 < length s → drop at s ≡ get_or s at 0 ∷ get_or s (at + 1) 0 ∷ drop (at + 2) s

@@ -1,13 +1,14 @@
 -- The run of bytes at the front that pass a test, a byte at a time. Assumes nothing.
-use Prim.Native.Nat.{ℕ, zero, suc, ◌+◌, ◌≤◌, ◌<◌}
+use Prim.Native.Nat.{ℕ, zero, suc, ◌≤◌, ◌<◌}
 use native.Mathlib.Omega.{arith}
 use mathlib.Core.Bool.{Bool, true, false}
 use mathlib.Core.List.{[], ◌∷◌}
-use mathlib.Core.Path.{◌≡◌, refl}
-use lib.ListN.{length, get_or, drop, drop_of_length-le}
+use mathlib.Core.Path.{◌≡◌, refl, ap}
+use lib.ListN.{length, get_or}
+use Rattle.std.proofs.Common.{Option, None, Some}
+use Rattle.std.specs.Option.{MatchOption, unwrap_or}
 use Rattle.sieve.specs.Bytes.{Bytes}
 use Rattle.sieve.proofs.Bounds.{case_at_most}
-use Rattle.runs.proofs.ByteByByte.{next}
 use Rattle.characters.specs.Runs.{run}
 
 module _ (f : ℕ → Bool) where
@@ -28,15 +29,16 @@ module _ (f : ℕ → Bool) where
       along zero false q k more = let p = rw q at k in absurd (omega arith)
       along (suc j) false q k more = let p = rw q at k in absurd (omega arith)
 
-  module _ (s : Bytes) (at : ℕ) where
-    pub passed : at < length s → f (get_or s at 0) ≡ true → at + run f (drop at s) ≡ at + 1 + run f (drop (at + 1) s)
-    unfolding run
-    passed h e = rw (next s at h, e, run) (omega arith)
+  -- it ends at the first byte that does not pass, or with the bytes
+  ends : (n : ℕ) (t : Bytes) → n ≤ length t → ((k : ℕ) → k < n → f (get_or t k 0) ≡ true) → (n < length t → f (get_or t n 0) ≡ false) → n ≡ run f t
+  unfolding run
+  ends zero [] h before stop = refl
+  ends zero (x ∷ t) h before stop = rw (stop (omega arith))
+  ends (suc n) [] h before stop = absurd (omega arith)
+  ends (suc n) (x ∷ t) h before stop =
+      let more = ends n t (omega arith) (λ k i. before (suc k) (omega arith)) (λ i. stop (omega arith)) in
+      rw (before 0 (omega arith)) (ap suc more)
 
-    pub stopped : at < length s → f (get_or s at 0) ≡ false → run f (drop at s) ≡ 0
-    unfolding run
-    stopped h e = rw (next s at h, e, run)
-
-    pub ended : length s ≤ at → run f (drop at s) ≡ 0
-    unfolding run
-    ended h = rw (drop_of_length-le s h)
+  pub first_other : (r : Option ℕ) (t : Bytes) → MatchOption r ((k : ℕ) → k < length t → f (get_or t k 0) ≡ true) (λ n. (n < length t) × ((k : ℕ) → k < n → f (get_or t k 0) ≡ true) × (f (get_or t n 0) ≡ false)) → unwrap_or r (length t) ≡ run f t
+  first_other None t all = ends (length t) t (omega arith) all (λ h. absurd (omega arith))
+  first_other (Some n) t (here, before, stop) = ends n t (omega arith) before (λ h. stop)

@@ -3,8 +3,9 @@
 
 #![tactic(auto)]
 
-ghost use Rattle.std.specs.Prelude.{◌≡◌, ◌*◌, ◌+◌, ◌≤◌, ◌<◌, drop, get_or, length, take};
+ghost use Rattle.std.specs.Prelude.{◌≡◌, ◌*◌, ◌+◌, ◌≤◌, ◌<◌, ◌&&◌, drop, get_or, length, take};
 ghost use Rattle.std.specs.Int.Count.{count_trailing_zeros};
+ghost use Rattle.sieve.specs.Bytes.{within};
 ghost use Rattle.sieve.specs.Iso8859.{iso_byte};
 ghost use Rattle.sieve.specs.Latin.{in_one, in_two, in_three, latin};
 ghost use Rattle.characters.specs.Runs.{run, accents, characters_in};
@@ -29,15 +30,9 @@ fn byte(s: &[u8], at: usize, k: usize) -> u8
 pub fn plain_run(s: &[u8]) -> usize
     ensures { result ≡ run in_one s.now }
 {
-    let mut i = 0;
-    while i < s.len() {
-        if of_kind(Kind::Plain, s[i]) {
-            i += 1;
-        } else {
-            return i;
-        }
-    }
-    i
+    s.iter()
+        .position(|x| !of_kind(Kind::Plain, *x))
+        .unwrap_or(s.len())
 }
 
 // C2 then A0 to BF; C3, C4 or C5 then 80 to BF; C8 then 98 to 9B. Umlauts and accents begin with C3, so that is asked
@@ -45,10 +40,10 @@ pub fn plain_run(s: &[u8]) -> usize
 fn in_two(x: u8, y: u8) -> bool
     ensures { result ≡ in_two x y }
 {
-    if (0xC3 <= x) & (x <= 0xC5) {
-        return (0x80 <= y) & (y <= 0xBF);
+    if matches!(x, 0xC3..=0xC5) {
+        return matches!(y, 0x80..=0xBF);
     }
-    (x == 0xC2) & ((0xA0 <= y) & (y <= 0xBF)) | (x == 0xC8) & ((0x98 <= y) & (y <= 0x9B))
+    (x == 0xC2) & matches!(y, 0xA0..=0xBF) | (x == 0xC8) & matches!(y, 0x98..=0x9B)
 }
 
 // E2 82 AC.
@@ -88,7 +83,14 @@ fn width(s: &[u8], at: usize) -> usize
 fn in_iso(x: u8) -> bool
     ensures { result ≡ iso_byte x }
 {
-    of_kind(Kind::Plain, x) | (0xA0 <= x) & (x <= 0xFF)
+    of_kind(Kind::Plain, x) | matches!(x, 0xA0..=0xFF)
+}
+
+// C3, C4 or C5 then 80 to BF: an umlaut, or a letter with an accent.
+fn accent(x: u8, y: u8) -> bool
+    ensures { result ≡ within 0xC3 0xC5 x && within 0x80 0xBF y }
+{
+    matches!(x, 0xC3..=0xC5) & matches!(y, 0x80..=0xBF)
 }
 
 // How many bytes from `from` on are characters C3, C4 or C5 then 80 to BF: umlauts and accents, which may come in a row.
@@ -98,17 +100,14 @@ fn accented(s: &[u8], from: usize) -> usize
     if s.len() < from {
         return 0;
     }
-    let mut at = from;
-    while 2 <= s.len() - at {
-        let x = s[at];
-        let y = s[at + 1];
-        if (0xC3 <= x) & (x <= 0xC5) & ((0x80 <= y) & (y <= 0xBF)) {
-            at += 2;
-        } else {
-            return at - from;
+    let mut n = 0;
+    for two in s[from..].chunks_exact(2) {
+        if !accent(two[0], two[1]) {
+            return n;
         }
+        n += 2;
     }
-    at - from
+    n
 }
 
 // How many bytes at `at` are characters of a set, one or a row of them; 0 where none begins.

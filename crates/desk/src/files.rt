@@ -1,11 +1,12 @@
 // Files judged one by one, a line for each.
 ghost use Rattle.std.specs.Prelude.{◌≤◌, length};
 
-use crate::input::{argument, argument_count, least, read_file};
+use crate::input::{argument, argument_count, read_file};
+use crate::layout::Layout;
 use crate::line::{add, add_name, add_named, add_number};
 use crate::payload::READ_BYTES;
 use crate::told::{STATUS_ROOM, STDERR, complain, tell, write_front};
-use sieve::{Answer, Break, Fault, line_of, number_of};
+use sieve::{Answer, Break, Fault, line_of, number_of, place_of};
 use std::io::IsTerminal;
 
 // The argument that is the first file.
@@ -27,13 +28,6 @@ struct Tally {
     failed: bool,
 }
 
-fn judge(payload: &[u8], girocode: bool) -> Answer {
-    if girocode {
-        return giro_judge::verdict(payload);
-    }
-    swiss_judge::verdict(payload)
-}
-
 fn add_accepted(out: &mut [u8], at: usize, n: usize, brk: Break) -> usize {
     let counted = add_named(out, at, b"\taccepted\t0\t", n as u64);
     match brk {
@@ -42,58 +36,32 @@ fn add_accepted(out: &mut [u8], at: usize, n: usize, brk: Break) -> usize {
     }
 }
 
-// The place of the byte that a refusal points at; nothing where it points at none.
-fn add_place(out: &mut [u8], at: usize, fault: Fault) -> usize {
-    match fault {
-        Fault::BadCharacter(_, place) => add_number(out, at, place as u64),
-        _ => at,
-    }
-}
-
+// The number of the byte stands there where a refusal points at one.
 fn add_refused(out: &mut [u8], at: usize, fault: Fault) -> usize {
     let number = add_named(out, at, b"\trefused\t", number_of(fault) as u64);
     let line = add_named(out, number, b"\t", line_of(fault) as u64);
     let before = add(out, line, b"\t");
-    let place = add_place(out, before, fault);
+    let place = match place_of(fault) {
+        Some(place) => add_number(out, before, place as u64),
+        None => before,
+    };
     add(out, place, b"\t\n")
-}
-
-fn with_accepted(t: Tally, at: usize) -> Tally {
-    Tally {
-        accepted: t.accepted.wrapping_add(1),
-        refused: t.refused,
-        unread: t.unread,
-        at: at,
-        failed: t.failed,
-    }
-}
-
-fn with_refused(t: Tally, at: usize) -> Tally {
-    Tally {
-        accepted: t.accepted,
-        refused: t.refused.wrapping_add(1),
-        unread: t.unread,
-        at: at,
-        failed: t.failed,
-    }
-}
-
-fn with_unread(t: Tally) -> Tally {
-    Tally {
-        accepted: t.accepted,
-        refused: t.refused,
-        unread: t.unread.wrapping_add(1),
-        at: t.at,
-        failed: t.failed,
-    }
 }
 
 // Lays a file's line behind those that wait.
 fn lay_line(out: &mut [u8], t: Tally, name: &[u8], answer: Answer) -> Tally {
     let named = add_name(out, t.at, name);
     match answer {
-        Answer::Accepted(n, k) => with_accepted(t, add_accepted(out, named, n, k)),
-        Answer::Refused(fault) => with_refused(t, add_refused(out, named, fault)),
+        Ok((n, brk)) => Tally {
+            accepted: t.accepted.wrapping_add(1),
+            at: add_accepted(out, named, n, brk),
+            ..t
+        },
+        Err(fault) => Tally {
+            refused: t.refused.wrapping_add(1),
+            at: add_refused(out, named, fault),
+            ..t
+        },
     }
 }
 
@@ -110,7 +78,7 @@ fn clear_progress(terminal: bool) {
 fn judge_file(
     rt: &HostRuntime,
     i: usize,
-    girocode: bool,
+    layout: Layout,
     terminal: bool,
     out: &mut [u8],
     t: Tally,
@@ -118,31 +86,30 @@ fn judge_file(
     let mut name = io::buffer();
     let n = argument(rt, i, &mut name);
     let mut payload = [0u8; READ_BYTES];
-    let got = read_file(rt, &name[0..n], &mut payload);
-    let bytes = got.bytes;
-    if got.whole {
-        let answer = judge(&payload[0..bytes], girocode);
-        return lay_line(out, t, &name[0..n], answer);
+    match read_file(rt, &name[0..n], &mut payload) {
+        Some(bytes) => lay_line(out, t, &name[0..n], layout.judge(&payload[0..bytes])),
+        None => {
+            clear_progress(terminal);
+            complain(&name[0..n]);
+            Tally {
+                unread: t.unread.wrapping_add(1),
+                ..t
+            }
+        }
     }
-    clear_progress(terminal);
-    complain(&name[0..n]);
-    with_unread(t)
 }
 
 // Writes the lines that wait, where they are more than so many bytes.
 fn flush(out: &[u8], t: Tally, most: usize, terminal: bool) -> Tally {
-    let at = t.at;
-    if at <= most {
+    if t.at <= most {
         return t;
     }
     clear_progress(terminal);
-    let written = write_front(out, at);
+    let written = write_front(out, t.at);
     Tally {
-        accepted: t.accepted,
-        refused: t.refused,
-        unread: t.unread,
         at: 0,
         failed: !written,
+        ..t
     }
 }
 
@@ -164,25 +131,25 @@ fn show_progress(done: usize, all: usize, terminal: bool) {
     }
 }
 
+const NOTHING_COUNTED: Tally = Tally {
+    accepted: 0,
+    refused: 0,
+    unread: 0,
+    at: 0,
+    failed: false,
+};
+
 // Judges the files, and stops where a write fails.
-fn judge_files(rt: &HostRuntime, girocode: bool, terminal: bool, out: &mut [u8]) -> Tally {
+fn judge_files(rt: &HostRuntime, layout: Layout, terminal: bool, out: &mut [u8]) -> Tally {
     let count = argument_count(rt);
-    let mut t = Tally {
-        accepted: 0,
-        refused: 0,
-        unread: 0,
-        at: 0,
-        failed: false,
-    };
-    let mut i = FIRST_FILE;
-    while i < count {
-        t = judge_file(rt, i, girocode, terminal, out, t);
+    let mut t = NOTHING_COUNTED;
+    for i in FIRST_FILE..count {
+        t = judge_file(rt, i, layout, terminal, out, t);
         t = flush(out, t, WAITING_BYTES, terminal);
         if t.failed {
             return t;
         }
-        i += 1;
-        show_progress(i - FIRST_FILE, count - FIRST_FILE, terminal);
+        show_progress(i + 1 - FIRST_FILE, count - FIRST_FILE, terminal);
     }
     flush(out, t, 0, terminal)
 }
@@ -203,11 +170,11 @@ fn tell_tally(t: Tally) {
 }
 
 // Where there are too few files to say how far it is, a terminal is left alone.
-pub fn judge_each(rt: &HostRuntime, girocode: bool) {
+pub fn judge_each(rt: &HostRuntime, layout: Layout) {
     let many = FIRST_FILE + STEP <= argument_count(rt);
     let terminal = rt.stderr().is_terminal() & many;
     let mut out = io::large_buffer();
-    let t = judge_files(rt, girocode, terminal, &mut out);
+    let t = judge_files(rt, layout, terminal, &mut out);
     clear_progress(terminal);
     if t.failed {
         return;

@@ -53,10 +53,8 @@ fn add_escaped(line: &mut [u8], at: usize, x: u8) -> usize
 // A name takes at most four times its bytes.
 pub fn add_name(line: &mut [u8], at: usize, name: &[u8]) -> usize {
     let mut end = at;
-    let mut i = 0;
-    while i < name.len() {
-        end = add_escaped(line, end, name[i]);
-        i += 1;
+    for x in name {
+        end = add_escaped(line, end, *x);
     }
     end
 }

@@ -6,6 +6,7 @@
 
 mod files;
 mod input;
+mod layout;
 mod line;
 mod making_numbers;
 mod payload;
@@ -13,90 +14,33 @@ mod told;
 mod trying;
 mod writing;
 
+use crate::layout::Layout;
 use input::argument;
-use runs::same;
 
-// Runs a command about one payload, on standard input; false where there is none of that name.
-fn run_on_payload(rt: &HostRuntime, word: &[u8]) -> bool {
-    if same(word, b"girocode") {
-        payload::judge_girocode(rt);
-        return true;
+// Runs a command; false where there is none of that name, or it has no sense.
+fn run(rt: &HostRuntime, word: &[u8]) -> bool {
+    match word {
+        b"girocode" => payload::judge_girocode(rt),
+        b"mend" => payload::mend(rt),
+        b"swift" => payload::map(rt),
+        b"each" => files::judge_each(rt, Layout::Swiss),
+        b"each-girocode" => files::judge_each(rt, Layout::Girocode),
+        b"season" => trying::try_season(rt),
+        b"qrr" => making_numbers::make_qrr(rt),
+        b"scor" => making_numbers::make_scor(rt),
+        b"iban" => making_numbers::make_iban(rt),
+        b"write" => return writing::write(rt, Layout::Swiss),
+        b"write-girocode" => return writing::write(rt, Layout::Girocode),
+        _ => return false,
     }
-    if same(word, b"mend") {
-        payload::mend(rt);
-        return true;
-    }
-    if same(word, b"swift") {
-        payload::map(rt);
-        return true;
-    }
-    false
-}
-
-// Runs a command about files; false where there is none of that name.
-fn run_on_files(rt: &HostRuntime, word: &[u8]) -> bool {
-    if same(word, b"each") {
-        files::judge_each(rt, false);
-        return true;
-    }
-    if same(word, b"each-girocode") {
-        files::judge_each(rt, true);
-        return true;
-    }
-    if same(word, b"season") {
-        trying::try_season(rt);
-        return true;
-    }
-    false
-}
-
-// Runs a command that makes a number of its arguments; false where there is none of that name.
-fn run_on_parts(rt: &HostRuntime, word: &[u8]) -> bool {
-    if same(word, b"qrr") {
-        making_numbers::make_qrr(rt);
-        return true;
-    }
-    if same(word, b"scor") {
-        making_numbers::make_scor(rt);
-        return true;
-    }
-    if same(word, b"iban") {
-        making_numbers::make_iban(rt);
-        return true;
-    }
-    false
-}
-
-// Runs a command that writes lines; false where there is none of that name.
-fn run_on_lines(rt: &HostRuntime, word: &[u8]) -> bool {
-    if same(word, b"write") {
-        return writing::write(rt, false);
-    }
-    if same(word, b"write-girocode") {
-        return writing::write(rt, true);
-    }
-    false
-}
-
-fn run(rt: &HostRuntime, word: &[u8]) {
-    if run_on_payload(rt, word) {
-        return;
-    }
-    if run_on_files(rt, word) {
-        return;
-    }
-    if run_on_parts(rt, word) {
-        return;
-    }
-    if run_on_lines(rt, word) {
-        return;
-    }
-    told::tell(b"unknown\n");
+    true
 }
 
 // A command longer than any there is stays unlike all of them where it is cut.
 fn main(rt: HostRuntime) {
     let mut word = [0u8; 32];
     let n = argument(&rt, 1, &mut word);
-    run(&rt, &word[0..n]);
+    if !run(&rt, &word[0..n]) {
+        told::tell(b"unknown\n");
+    }
 }

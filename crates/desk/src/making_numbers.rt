@@ -1,5 +1,5 @@
 // Commands that make a reference or an account of their arguments.
-use crate::input::{argument, least};
+use crate::input::argument;
 use crate::line::add;
 use crate::told::{tell, tell_refusal, write_front};
 use sieve::Written;
@@ -17,9 +17,9 @@ fn write_number(number: &[u8]) -> bool {
 
 fn answer_made(made: Written, dest: &[u8]) {
     match made {
-        Written::Refused(fault) => tell_refusal(fault),
-        Written::Length(n) => {
-            let end = least(n, dest.len());
+        Err(fault) => tell_refusal(fault),
+        Ok(n) => {
+            let end = n.min(dest.len());
             if write_number(&dest[0..end]) {
                 tell(b"made\n");
             }
@@ -27,20 +27,23 @@ fn answer_made(made: Written, dest: &[u8]) {
     }
 }
 
-pub fn make_qrr(rt: &HostRuntime) {
-    let mut digits = [0u8; PART_BYTES];
-    let n = argument(rt, 2, &mut digits);
+// Makes a number of the one argument that there is.
+fn make_of_one<F: Fn(&[u8], &mut [u8]) -> Written>(rt: &HostRuntime, make: &F)
+    requires { F.IsAlwaysCallable make.now }
+{
+    let mut part = [0u8; PART_BYTES];
+    let n = argument(rt, 2, &mut part);
     let mut dest = [0u8; PART_BYTES];
-    let made = making::make_qrr(&digits[0..n], &mut dest);
+    let made = make(&part[0..n], &mut dest);
     answer_made(made, &dest);
 }
 
+pub fn make_qrr(rt: &HostRuntime) {
+    make_of_one(rt, &making::make_qrr);
+}
+
 pub fn make_scor(rt: &HostRuntime) {
-    let mut reference = [0u8; PART_BYTES];
-    let n = argument(rt, 2, &mut reference);
-    let mut dest = [0u8; PART_BYTES];
-    let made = making::make_scor(&reference[0..n], &mut dest);
-    answer_made(made, &dest);
+    make_of_one(rt, &making::make_scor);
 }
 
 pub fn make_iban(rt: &HostRuntime) {

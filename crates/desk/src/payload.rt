@@ -5,7 +5,8 @@ use crate::input::read_input;
 use crate::line::{add, add_named};
 use crate::told::{STATUS_ROOM, tell, tell_refusal, write_front};
 use mender::{Mended, Repairs};
-use swift::{Counts, Mapped};
+use sieve::Fault;
+use swift::Counts;
 use swiss::Edition;
 
 // One byte more than a bill may have: a longer payload is refused whatever follows.
@@ -45,8 +46,8 @@ fn tell_repairs(repairs: Repairs) {
 
 fn answer_mended(mended: Mended, dest: &[u8]) {
     match mended {
-        Mended::Refused(fault) => tell_refusal(fault),
-        Mended::Length(n, repairs) => {
+        Err(fault) => tell_refusal(fault),
+        Ok((n, repairs)) => {
             if write_front(dest, n) {
                 tell_repairs(repairs);
             }
@@ -80,10 +81,10 @@ fn tell_counts(counts: Counts) {
     tell(&line[0..n]);
 }
 
-fn answer_mapped(mapped: Mapped, dest: &[u8]) {
+fn answer_mapped(mapped: Result<Counts, Fault>, dest: &[u8]) {
     match mapped {
-        Mapped::Refused(fault) => tell_refusal(fault),
-        Mapped::Laid(counts) => {
+        Err(fault) => tell_refusal(fault),
+        Ok(counts) => {
             if write_front(dest, counts.bytes) {
                 tell_counts(counts);
             }

@@ -1,9 +1,8 @@
 // What is told: the answer on standard output, how it went on descriptor 3, and what failed on standard error.
 ghost use Rattle.std.specs.Prelude.{◌≤◌, length};
 
-use crate::input::least;
 use crate::line::{add, add_name, add_named};
-use sieve::{Fault, line_of, number_of};
+use sieve::{Fault, line_of, number_of, place_of};
 
 // The descriptors. Where the status goes is neither of the user's two.
 const STDOUT: i32 = 1;
@@ -24,24 +23,20 @@ pub fn tell(status: &[u8]) {
 
 // Writes the front of a buffer to standard output; false where it was not written whole.
 pub fn write_front(buffer: &[u8], n: usize) -> bool {
-    let end = least(n, buffer.len());
+    let end = n.min(buffer.len());
     io::write_all(STDOUT, &buffer[0..end])
 }
 
-// Lays the place of the byte that a refusal points at; nothing where it points at none.
-fn add_place(line: &mut [u8], at: usize, fault: Fault) -> usize {
-    match fault {
-        Fault::BadCharacter(_, place) => add_named(line, at, b" byte ", place as u64),
-        _ => at,
-    }
-}
-
+// The place of the byte that a refusal points at stands there where it points at one.
 fn add_refusal(line: &mut [u8], fault: Fault) -> usize
     ensures { result ≤ length line.new }
 {
     let number = add_named(line, 0, b"refused ", number_of(fault) as u64);
     let named = add_named(line, number, b" line ", line_of(fault) as u64);
-    let placed = add_place(line, named, fault);
+    let placed = match place_of(fault) {
+        Some(place) => add_named(line, named, b" byte ", place as u64),
+        None => named,
+    };
     add(line, placed, b"\n")
 }
 

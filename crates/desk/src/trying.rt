@@ -1,10 +1,11 @@
 // A season: files tried under both editions.
 ghost use Rattle.std.specs.Prelude.{◌≡◌, ◌<◌, ◌≤◌, length};
 
-use crate::input::{argument, argument_count, least, read_file};
+use crate::input::{argument, argument_count, read_file};
 use crate::line::{add, add_name, add_named};
 use crate::told::{NAME_ROOM, STATUS_ROOM, complain, tell, tell_refusal, write_front};
 use season::Tried;
+use sieve::Fault;
 
 // The argument that is the first file.
 const FIRST_FILE: usize = 2;
@@ -26,21 +27,20 @@ fn note_place(places: &mut [u32], i: usize, start: usize, bytes: usize)
     places[2 * i + 1] = bytes as u32;
 }
 
-// Reads a file into its room, and notes its place. Answers how many files could not be read by that: 0 or 1.
-fn gather_file(rt: &HostRuntime, i: usize, buffer: &mut [u8], places: &mut [u32]) -> u64
+// Reads a file into its room, and notes its place; false where it cannot be read.
+fn gather_file(rt: &HostRuntime, i: usize, buffer: &mut [u8], places: &mut [u32]) -> bool
     requires { (i < 500) × (length buffer.old ≡ 499000) × (length places.old ≡ 1000) }
 {
     let mut name = io::buffer();
     let n = argument(rt, FIRST_FILE + i, &mut name);
     let start = FILE_BYTES * i;
     let end = start + FILE_BYTES;
-    let got = read_file(rt, &name[0..n], &mut buffer[start..end]);
-    note_place(places, i, start, least(got.bytes, FILE_BYTES));
-    if got.whole {
-        return 0;
+    let read = read_file(rt, &name[0..n], &mut buffer[start..end]);
+    note_place(places, i, start, read.unwrap_or(0).min(FILE_BYTES));
+    if read.is_none() {
+        complain(&name[0..n]);
     }
-    complain(&name[0..n]);
-    1
+    read.is_some()
 }
 
 // Reads all files, and answers how many cannot be read. There are at most 500, so no count wraps.
@@ -48,10 +48,10 @@ fn gather_files(rt: &HostRuntime, count: usize, buffer: &mut [u8], places: &mut 
     requires { (count ≤ 500) × (length buffer.old ≡ 499000) × (length places.old ≡ 1000) }
 {
     let mut unread: u64 = 0;
-    let mut i = 0;
-    while i < count {
-        unread = unread.wrapping_add(gather_file(rt, i, buffer, places));
-        i += 1;
+    for i in 0..count {
+        if !gather_file(rt, i, buffer, places) {
+            unread = unread.wrapping_add(1);
+        }
     }
     unread
 }
@@ -69,18 +69,18 @@ fn tell_unread(unread: u64) {
     tell(&line[0..end]);
 }
 
-fn add_listed(line: &mut [u8], n: usize, francs: u64, euros: u64) -> usize
+fn add_tried(line: &mut [u8], tried: Tried) -> usize
     ensures { result ≤ length line.new }
 {
-    let listed = add_named(line, 0, b"season ", n as u64);
-    let in_francs = add_named(line, listed, b" CHF ", francs);
-    let in_euros = add_named(line, in_francs, b" EUR ", euros);
+    let listed = add_named(line, 0, b"season ", tried.listed as u64);
+    let in_francs = add_named(line, listed, b" CHF ", tried.francs);
+    let in_euros = add_named(line, in_francs, b" EUR ", tried.euros);
     add(line, in_euros, b"\n")
 }
 
-fn tell_listed(n: usize, francs: u64, euros: u64) {
+fn tell_tried(tried: Tried) {
     let mut line = [0u8; STATUS_ROOM];
-    let end = add_listed(&mut line, n, francs, euros);
+    let end = add_tried(&mut line, tried);
     tell(&line[0..end]);
 }
 
@@ -100,24 +100,16 @@ fn write_name(rt: &HostRuntime, position: u16) -> bool {
 
 // Writes the names at all positions of a list; false where one is not written whole.
 fn write_names(rt: &HostRuntime, positions: &[u16]) -> bool {
-    let mut i = 0;
-    while i < positions.len() {
-        if write_name(rt, positions[i]) {
-            i += 1;
-        } else {
-            return false;
-        }
-    }
-    true
+    positions.iter().all(|position| write_name(rt, *position))
 }
 
-fn answer_tried(rt: &HostRuntime, tried: Tried, list: &[u16]) {
-    match tried {
-        Tried::Refused(fault) => tell_refusal(fault),
-        Tried::Listed(n, francs, euros) => {
-            let end = least(n, list.len());
+fn answer_tried(rt: &HostRuntime, answer: Result<Tried, Fault>, list: &[u16]) {
+    match answer {
+        Err(fault) => tell_refusal(fault),
+        Ok(tried) => {
+            let end = tried.listed.min(list.len());
             if write_names(rt, &list[0..end]) {
-                tell_listed(n, francs, euros);
+                tell_tried(tried);
             }
         }
     }
@@ -140,11 +132,7 @@ fn try_files(rt: &HostRuntime, count: usize)
 
 // How many arguments are files.
 fn file_count(rt: &HostRuntime) -> usize {
-    let all = argument_count(rt);
-    if all < FIRST_FILE {
-        return 0;
-    }
-    all - FIRST_FILE
+    argument_count(rt).saturating_sub(FIRST_FILE)
 }
 
 pub fn try_season(rt: &HostRuntime) {

@@ -1,12 +1,12 @@
 // Commands that write lines, which are arguments, as a payload.
 ghost use Rattle.std.specs.Prelude.{◌<◌, ◌≤◌, length};
 
-use crate::input::{argument, argument_count, least};
+use crate::input::{argument, argument_count};
+use crate::layout::Layout;
 use crate::line::{add, add_named};
 use crate::told::{STATUS_ROOM, tell, tell_refusal, write_front};
-use runs::{characters, same};
+use runs::characters;
 use sieve::{Break, Written};
-use swiss::Edition;
 
 // The argument that is the first line.
 const FIRST_LINE: usize = 3;
@@ -33,30 +33,31 @@ fn note(list: &mut [u16], at: usize, n: usize) {
 }
 
 // The place of a line: a girocode's list has start and bytes, a Swiss bill's the characters too.
-fn note_line(list: &mut [u16], i: usize, start: usize, text: &[u8], girocode: bool)
+fn note_line(list: &mut [u16], i: usize, start: usize, text: &[u8], layout: Layout)
     requires { i < 64 }
 {
-    if girocode {
-        note(list, 2 * i, start);
-        note(list, 2 * i + 1, text.len());
-        return;
+    match layout {
+        Layout::Girocode => {
+            note(list, 2 * i, start);
+            note(list, 2 * i + 1, text.len());
+        }
+        Layout::Swiss => {
+            note(list, 3 * i, start);
+            note(list, 3 * i + 1, text.len());
+            note(list, 3 * i + 2, characters(text));
+        }
     }
-    note(list, 3 * i, start);
-    note(list, 3 * i + 1, text.len());
-    note(list, 3 * i + 2, characters(text));
 }
 
 // Lays the lines behind each other in the text, and their places in the list.
-fn gather(rt: &HostRuntime, count: usize, text: &mut [u8], list: &mut [u16], girocode: bool)
+fn gather(rt: &HostRuntime, count: usize, text: &mut [u8], list: &mut [u16], layout: Layout)
     requires { count ≤ 64 }
 {
     let mut at = 0;
-    let mut i = 0;
-    while i < count {
+    for i in 0..count {
         let end = at + argument(rt, FIRST_LINE + i, &mut text[at..]);
-        note_line(list, i, at, &text[at..end], girocode);
+        note_line(list, i, at, &text[at..end], layout);
         at = end;
-        i += 1;
     }
 }
 
@@ -75,8 +76,8 @@ fn tell_length(n: usize) {
 
 fn answer_written(written: Written, dest: &[u8]) {
     match written {
-        Written::Refused(fault) => tell_refusal(fault),
-        Written::Length(n) => {
+        Err(fault) => tell_refusal(fault),
+        Ok(n) => {
             if write_front(dest, n) {
                 tell_length(n);
             }
@@ -87,48 +88,27 @@ fn answer_written(written: Written, dest: &[u8]) {
 fn line_count(rt: &HostRuntime) -> usize
     ensures { result ≤ 64 }
 {
-    let all = argument_count(rt);
-    if all < FIRST_LINE {
-        return 0;
-    }
-    least(all - FIRST_LINE, LINES)
+    argument_count(rt).saturating_sub(FIRST_LINE).min(LINES)
 }
 
-fn write_swiss(text: &[u8], list: &[u16], count: usize, brk: Break) {
-    let mut dest = [0u8; PAYLOAD_BYTES];
-    let written = writer::write(text, list, count, brk, Edition::V24, &mut dest);
-    answer_written(written, &dest);
-}
-
-fn write_girocode(text: &[u8], list: &[u16], count: usize, brk: Break) {
-    let mut dest = [0u8; PAYLOAD_BYTES];
-    let written = giro_writer::write(text, list, count, brk, &mut dest);
-    answer_written(written, &dest);
-}
-
-fn write_lines(rt: &HostRuntime, brk: Break, girocode: bool) {
+fn write_lines(rt: &HostRuntime, brk: Break, layout: Layout) {
     let count = line_count(rt);
     let mut text = [0u8; TEXT_BYTES];
     let mut list = [0u16; LIST_NUMBERS];
-    gather(rt, count, &mut text, &mut list, girocode);
-    if girocode {
-        write_girocode(&text, &list, count, brk);
-        return;
-    }
-    write_swiss(&text, &list, count, brk);
+    gather(rt, count, &mut text, &mut list, layout);
+    let mut dest = [0u8; PAYLOAD_BYTES];
+    let written = layout.join(&text, &list, count, brk, &mut dest);
+    answer_written(written, &dest);
 }
 
 // Writes the lines with the break that the second argument names; false where it names none.
-pub fn write(rt: &HostRuntime, girocode: bool) -> bool {
+pub fn write(rt: &HostRuntime, layout: Layout) -> bool {
     let mut name = [0u8; 8];
     let n = argument(rt, 2, &mut name);
-    if same(&name[0..n], b"lf") {
-        write_lines(rt, Break::Lf, girocode);
-        return true;
+    match &name[0..n] {
+        b"lf" => write_lines(rt, Break::Lf, layout),
+        b"crlf" => write_lines(rt, Break::CrLf, layout),
+        _ => return false,
     }
-    if same(&name[0..n], b"crlf") {
-        write_lines(rt, Break::CrLf, girocode);
-        return true;
-    }
-    false
+    true
 }

@@ -24,6 +24,3 @@ one_formed κs a x y v w h k = (h ∙ sym k, refl)
 
 pub one_checked : OneAnswer contracts.checked.ended fn.checked.Reads.Learnt
 one_checked κs a x y v w h k = (h ∙ sym k, refl)
-
-pub one_fault_of : OneAnswer contracts.fault_of.ended fn.fault_of.Reads.Learnt
-one_fault_of κs a x y v w h k = (h ∙ sym k, refl)

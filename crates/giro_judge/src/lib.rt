@@ -10,11 +10,10 @@ ghost use Rattle.girocode.specs.Coding.{read_as_iso};
 ghost use Rattle.girocode.specs.Girocode.{girocode};
 ghost use Rattle.whole.specs.Judged.{IsJudged};
 
-use findings::fault_of;
 use giro_rules::rules;
 use girocode::limits;
 use lines::line_place;
-use places::clear;
+use places::{Payload, clear};
 use runs::same;
 use sieve::{Answer, Charset, WALK_NUMBERS};
 use whole::whole;
@@ -40,15 +39,14 @@ pub fn judge(payload: &[u8], places: &mut [u16; WALK_NUMBERS]) -> Answer
         Charset::Latin
     };
     match whole(payload, limits::LIMITS, set, places) {
-        Answer::Refused(f) => Answer::Refused(f),
-        Answer::Accepted(n, k) => {
-            let found = rules(payload, places, n, iso);
-            if found.number != 0 {
+        Err(f) => Err(f),
+        Ok((n, k)) => match rules(&Payload::new(payload, places), n, iso) {
+            Ok(()) => Ok((n, k)),
+            Err(fault) => {
                 clear(places);
-                return Answer::Refused(fault_of(found));
+                Err(fault)
             }
-            Answer::Accepted(n, k)
-        }
+        },
     }
 }
 

@@ -7,7 +7,7 @@ ghost use Rattle.girocode.specs.Girocode.{girocode};
 
 use giro_judge::judge;
 use girocode::limits::LIST_SIZE;
-use runs::fill;
+use runs::lay;
 use sieve::{Answer, Fault, WALK_NUMBERS};
 
 // The line count and the kind of break of an accepted payload, with start and byte length of each of 12 lines in the
@@ -17,14 +17,10 @@ pub fn read(payload: &[u8], list: &mut [u16]) -> Answer
     ensures { IsRead girocode payload.now list.old result list.new }
 {
     let mut places = [0; WALK_NUMBERS];
-    match judge(payload, &mut places) {
-        Answer::Refused(f) => Answer::Refused(f),
-        Answer::Accepted(n, k) => {
-            if list.len() < LIST_SIZE {
-                return Answer::Refused(Fault::NoRoom);
-            }
-            fill(list, &places[0..LIST_SIZE]);
-            Answer::Accepted(n, k)
-        }
+    let (n, k) = judge(payload, &mut places)?;
+    if list.len() < LIST_SIZE {
+        return Err(Fault::NoRoom);
     }
+    lay(list, &places[0..LIST_SIZE]);
+    Ok((n, k))
 }

@@ -7,7 +7,7 @@ ghost use Rattle.joining.specs.Stages.{IsWrittenTo};
 
 use giro_judge::verdict;
 use girocode::limits::{LIMITS, MOST_BYTES};
-use joining::{Gathered, gather, lay_lines, settle};
+use joining::{Handed, Joinable};
 use sieve::{Break, Written};
 
 // Joins the lines that the first `count` places give of the text, with the break between them, in the front of the
@@ -16,13 +16,15 @@ use sieve::{Break, Written};
 pub fn write(text: &[u8], places: &[u16], count: usize, brk: Break, dest: &mut [u8]) -> Written
     ensures { IsWrittenTo girocode text places count brk dest result }
 {
-    match gather(text, places, count, brk, LIMITS) {
-        Gathered::Refused(f) => Written::Refused(f),
-        Gathered::Bytes(n) => {
-            let mut joined = [0; MOST_BYTES];
-            lay_lines(&mut joined, text, places, count, brk);
-            let answer = verdict(&joined[0..n]);
-            settle(answer, text, places, count, brk, dest, n)
-        }
-    }
+    let lines = Handed {
+        text,
+        list: places,
+        count,
+        brk,
+    };
+    let n = lines.gather(LIMITS)?;
+    let mut joined = [0; MOST_BYTES];
+    lines.lay_lines(&mut joined);
+    let answer = verdict(&joined[0..n]);
+    Joinable { lines }.settle(answer, dest, n)
 }

@@ -2,7 +2,6 @@ pub mod Kept
 pub mod Fronts
 pub mod Begun
 pub mod Ending
-pub mod Looking
 pub mod Measured
 pub mod Leading
 pub mod Lying

@@ -1,5 +1,5 @@
 -- Where line 4 starts, behind the fixed texts of lines 1 to 3, and what ends a line. Assumes nothing.
-use Rattle.std.specs.Prelude.{ℕ, ◌+◌, Bool, cond, ◌&&◌, not, [], ◌∷◌, eqb, get_or, drop}
+use Rattle.std.specs.Prelude.{ℕ, ◌+◌, ◌<◌, ◌≡◌, Option, MatchOption, Bool, cond, ◌&&◌, not, [], ◌∷◌, eqb, get_or, drop}
 use Rattle.sieve.specs.Bytes.{Bytes, ascii}
 use Rattle.sieve.specs.Characters.{break_width}
 use Rattle.swiss.specs.Limits.{qr_type, version, coding}
@@ -26,3 +26,7 @@ fourth_start s = then_behind s (ascii coding) (then_behind s (ascii version) (go
 unfoldable pub ends_with : Bytes → Bool → Bool
 ends_with [] more = not more
 ends_with (x ∷ s) more = not (eqb (break_width (x ∷ s)) 0)
+
+-- such a place, as code answers it: none where it is 0
+abbrev pub IsTold : ℕ → Option ℕ → Type 0
+IsTold place result = MatchOption result (place ≡ 0) (λ at. (at ≡ place) × (0 < at))

@@ -1,5 +1,5 @@
 -- Whose account a payload names, at a glance: by its first 37 bytes, and by whether there are more. Assumes nothing.
-use Rattle.std.specs.Prelude.{ℕ, ◌+◌, Bool, true, false, cond, List, map, ◌++◌, ltb, length, take}
+use Rattle.std.specs.Prelude.{ℕ, ◌+◌, Some, None, Bool, true, false, cond, List, map, ◌++◌, ltb, length, take}
 use Rattle.std.proofs.Math.Option.{Option, some, none}
 use Rattle.sieve.specs.Bytes.{Bytes}
 use Rattle.sieve.specs.Lines.{cut, lines_of, breaks_of}
@@ -7,8 +7,7 @@ use Rattle.sieve.specs.Places.{Placed}
 use Rattle.sieve.specs.Verdict.{Refusal, about_lines, first}
 use Rattle.lines.specs.LinesIn.{line_of}
 use Rattle.swiss.specs.Swiss.{header, account}
-use Rattle.glance.specs.declared.Account.{Account}
-use Rattle.glance.specs.declared.Account.TheVariants.{Unknown, At}
+use Rattle.lines.specs.declared.Place.{Place}
 
 -- how many bytes are looked at
 abbrev pub looked : ℕ
@@ -37,6 +36,9 @@ unfoldable pub glance : Bytes → Option Placed
 glance p = look (take looked p) (ltb looked (length p))
 
 -- the answer: its place
-abbrev pub account_as : Option Placed → Account
-account_as none = Unknown
-account_as (some l) = At l.start (length l.text)
+abbrev pub known : ℕ → ℕ → Rattle.std.specs.Prelude.Option Place
+known start bytes = Some (record { start = start; bytes = bytes })
+
+abbrev pub account_as : Option Placed → Rattle.std.specs.Prelude.Option Place
+account_as none = None
+account_as (some l) = known l.start (length l.text)

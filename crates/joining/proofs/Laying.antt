@@ -11,14 +11,15 @@ use borrow.Rule.Slice.PartMut.{mid_of, put_mid}
 use Rattle.sieve.specs.Bytes.{Bytes, over}
 use Rattle.sieve.specs.Lines.{break_bytes}
 use Rattle.runs.proofs.Lays.{Laying, lent, back}
-use Rattle.joining.specs.declared.After.{After}
-use Rattle.joining.specs.declared.After.TheVariants.{Nothing, ABreak}
+use Rattle.sieve.specs.declared.Break.{Break}
+use Rattle.std.specs.Prelude.{Some, None}
+use Rattle.std.specs.declared.option.Option.{Option}
 use Rattle.joining.specs.Handing.{with_break}
 
 -- a line is no longer than with what comes after it
-pub line_within : (l : Bytes) (after : After) → length l ≤ length (with_break l after)
-line_within l Nothing = omega arith
-line_within l (ABreak k) = omega (arith, length-append l (break_bytes k))
+pub line_within : (l : Bytes) (after : Option Break) → length l ≤ length (with_break l after)
+line_within l None = omega arith
+line_within l (Some k) = omega (arith, length-append l (break_bytes k))
 
 -- of a destination d, the first n bytes are w by now, and what lies behind them is as it was
 abbrev pub Front : Bytes → Bytes → ℕ → Bytes → Type 0

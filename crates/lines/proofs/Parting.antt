@@ -8,31 +8,32 @@ use mathlib.Core.List.{List, [], ◌∷◌}
 use mathlib.Core.Logic.{◌≢◌}
 use mathlib.Core.Path.{◌≡◌, refl, ap}
 use lib.ListN.{length, drop}
+use Rattle.std.specs.Prelude.{Ok, Err}
 use Rattle.sieve.specs.declared.Break.{Break}
 use Rattle.sieve.specs.declared.Break.TheVariants.{Lf, CrLf}
+use Rattle.sieve.specs.declared.Fault.TheVariants.{MixedBreaks}
+use Rattle.sieve.specs.Paper.{Answer}
 use Rattle.sieve.specs.Bytes.{Bytes, first_such}
 use Rattle.sieve.specs.Lines.{break_bytes, cut, breaks_of, kind, same_break}
 use Rattle.sieve.proofs.Likeness.{like_itself, unlike_found}
 use Rattle.lines.specs.declared.LineAt.{LineAt}
 use Rattle.lines.specs.Results.{IsLineAt}
 use Rattle.lines.proofs.LinesAt.{some_width, Onward, nothing, a_break, onward}
-use Rattle.lines.specs.declared.Parted.{Parted}
-use Rattle.lines.specs.declared.Parted.TheVariants.{Alike, Unlike}
 use Rattle.lines.specs.Parted.{of_width, parted, breaks_in}
 
 -- breaks that come after those of n - 1 lines, all of kind k
-pub parted_from : Break → ℕ → List Break → Parted
+pub parted_from : Break → ℕ → List Break → Answer
 parted_from k n ks = parted k (n + length ks) (first_such (λ j. not (same_break k j)) n ks)
 
-pub no_more : (k : Break) (n : ℕ) → parted_from k n [] ≡ Alike k n
+pub no_more : (k : Break) (n : ℕ) → parted_from k n [] ≡ Ok (n, k)
 unfolding first_such parted_from
-no_more k n = ap (Alike k) (add-zero n)
+no_more k n = rw add-zero refl
 
 pub alike : (k : Break) (n : ℕ) (ks : List Break) → parted_from k n (k ∷ ks) ≡ parted_from k (n + 1) ks
 unfolding first_such parted_from
 alike k n ks = rw (like_itself k, first_such, add-one) (ap (λ (m : ℕ). parted k m (first_such (λ j. not (same_break k j)) (suc n) ks)) (omega arith))
 
-pub unlike : (k : Break) (n : ℕ) (j : Break) (ks : List Break) → j ≢ k → parted_from k n (j ∷ ks) ≡ Unlike n
+pub unlike : (k : Break) (n : ℕ) (j : Break) (ks : List Break) → j ≢ k → parted_from k n (j ∷ ks) ≡ Err (MixedBreaks n)
 unfolding first_such parted_from
 unlike k n j ks h = rw (unlike_found k j h, first_such)
 

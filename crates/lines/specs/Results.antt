@@ -1,14 +1,11 @@
--- What the functions' enums and structs mean. Assumes nothing.
+-- What the functions' structs mean. Assumes nothing.
 use Rattle.std.specs.Prelude.{ℕ, ◌+◌, ◌≡◌, length, drop}
-use Rattle.std.proofs.Math.Option.{Option, some, none}
 use Rattle.sieve.specs.Bytes.{Bytes}
 use Rattle.sieve.specs.Lines.{cut}
 use Rattle.sieve.specs.Characters.{break_width}
 use Rattle.sieve.specs.Places.{Placed}
 use Rattle.lines.specs.declared.LineAt.{LineAt}
 use Rattle.lines.specs.declared.Place.{Place}
-use Rattle.lines.specs.declared.Stray.{Stray}
-use Rattle.lines.specs.declared.Stray.TheVariants.{Nowhere, At}
 
 -- the line that starts at place `from` ends before its break, and the next one starts after it
 pub record IsLineAt (s : Bytes) (from : ℕ) (r : LineAt) : Type 0 where
@@ -19,8 +16,3 @@ pub record IsLineAt (s : Bytes) (from : ℕ) (r : LineAt) : Type 0 where
 pub record IsPlaceOf (l : Placed) (r : Place) : Type 0 where
   pub start : r.start ≡ l.start
   pub bytes : r.bytes ≡ length l.text
-
--- the place of the first byte found, if one is
-abbrev pub stray_as : Option ℕ → Stray
-stray_as none = Nowhere
-stray_as (some at) = At at

@@ -7,10 +7,11 @@ ghost use Rattle.sieve.specs.Bytes.{first_such};
 ghost use Rattle.sieve.specs.Lines.{break_bytes, of_break};
 ghost use Rattle.sieve.specs.Characters.{break_width};
 ghost use Rattle.lines.specs.LinesIn.{line_of};
-ghost use Rattle.lines.specs.Results.{IsLineAt, IsPlaceOf, stray_as};
+ghost use Rattle.sieve.specs.Options.{answered};
+ghost use Rattle.lines.specs.Results.{IsLineAt, IsPlaceOf};
 ghost use Rattle.lines.specs.Parted.{breaks_in, of_width, held_by, parted_by};
 
-use sieve::Break;
+use sieve::{Answer, Break, Fault};
 
 // Whether LF stands directly after a byte.
 pub fn feed_after(s: &[u8], at: usize) -> bool
@@ -47,7 +48,7 @@ fn of_break(x: u8) -> bool
 }
 
 // Where a line ends, and where the next one starts; both the same where it is the last.
-#[derive(Clone, Copy)]
+#[derive(Clone, Copy, Debug, PartialEq, Eq)]
 pub struct LineAt {
     pub end: usize,
     pub next: usize,
@@ -58,8 +59,7 @@ pub struct LineAt {
 pub fn line_at(s: &[u8], from: usize) -> LineAt
     ensures { IsLineAt s.now from result }
 {
-    let mut at = from;
-    while at < s.len() {
+    for at in from..s.len() {
         if of_break(s[at]) {
             let b = break_width(s, at);
             if b != 0 {
@@ -67,13 +67,13 @@ pub fn line_at(s: &[u8], from: usize) -> LineAt
                 return LineAt { end: at, next };
             }
         }
-        at += 1;
     }
-    LineAt { end: at, next: at }
+    let end = if from < s.len() { s.len() } else { from };
+    LineAt { end, next: end }
 }
 
 // Where a line lies.
-#[derive(Clone, Copy)]
+#[derive(Clone, Copy, Debug, PartialEq, Eq)]
 pub struct Place {
     pub start: usize,
     pub bytes: usize,
@@ -84,47 +84,33 @@ pub fn line_place(s: &[u8], n: usize) -> Place
     ensures { IsPlaceOf (line_of s.now n) result }
 {
     let mut at = 0;
-    let mut left = n;
-    loop {
+    for _ in 1..n {
         let line = line_at(s, at);
-        let end = line.end;
-        let next = line.next;
-        if left <= 1 {
-            let bytes = end - at;
-            return Place { start: at, bytes };
-        }
-        if next == end {
+        if line.next == line.end {
             return Place {
                 start: s.len(),
                 bytes: 0,
             };
         }
-        at = next;
-        left -= 1;
+        at = line.next;
     }
-}
-
-// Where a line holds CR or LF.
-#[derive(Clone, Copy)]
-pub enum Stray {
-    Nowhere,
-    At(usize),
+    let line = line_at(s, at);
+    let bytes = line.end - at;
+    Place { start: at, bytes }
 }
 
 // The first byte of a line that is CR or LF. Nearly all bytes are above both, and are passed by one test.
-pub fn stray_break(s: &[u8]) -> Stray
-    ensures { result ≡ stray_as (first_such of_break 0 s.now) }
+pub fn stray_break(s: &[u8]) -> Option<usize>
+    ensures { result ≡ answered (first_such of_break 0 s.now) }
 {
-    let mut i = 0;
-    while i < s.len() {
-        if s[i] <= 13 {
-            if of_break(s[i]) {
-                return Stray::At(i);
+    for (i, x) in s.iter().enumerate() {
+        if *x <= 13 {
+            if of_break(*x) {
+                return Some(i);
             }
         }
-        i += 1;
     }
-    Stray::Nowhere
+    None
 }
 
 // How many bytes a break has.
@@ -137,43 +123,37 @@ pub fn break_length(k: Break) -> usize
     }
 }
 
-// How some bytes are parted into lines.
-#[derive(Clone, Copy)]
-pub enum Parted {
-    // all breaks are like the first: its kind (LF where there is none), and how many lines
-    Alike(Break, usize),
-    // the line that the first break unlike the first one ends
-    Unlike(usize),
-}
-
-// The breaks that were passed: the width of the first, and the line that the first unlike it ends; 0 where there is none.
+// The breaks that were passed: the kind of the first, and the line that the first unlike it ends.
 #[derive(Clone, Copy)]
 struct BreaksPassed {
-    first: usize,
-    unlike: usize,
+    first: Option<Break>,
+    unlike: Option<usize>,
 }
 
 const NO_BREAKS: BreaksPassed = BreaksPassed {
-    first: 0,
-    unlike: 0,
+    first: None,
+    unlike: None,
 };
 
 // One break more, which ends line n.
-fn held(breaks: BreaksPassed, width: usize, n: usize) -> BreaksPassed
-    ensures { result ≡ held_by breaks width n }
+fn held(breaks: BreaksPassed, brk: Break, n: usize) -> BreaksPassed
+    ensures { result ≡ held_by breaks brk n }
 {
-    let first = breaks.first;
-    let unlike = breaks.unlike;
-    if first == 0 {
-        return BreaksPassed {
-            first: width,
-            unlike,
-        };
+    match breaks.first {
+        None => BreaksPassed {
+            first: Some(brk),
+            ..breaks
+        },
+        Some(first) => {
+            if breaks.unlike.is_none() & (brk != first) {
+                return BreaksPassed {
+                    unlike: Some(n),
+                    ..breaks
+                };
+            }
+            breaks
+        }
     }
-    if (unlike == 0) & (width != first) {
-        return BreaksPassed { first, unlike: n };
-    }
-    BreaksPassed { first, unlike }
 }
 
 // The kind of a break, by its width.
@@ -184,18 +164,18 @@ fn break_of(width: usize) -> Break
 }
 
 // How n lines are parted, if these are the breaks between them.
-fn parted_by(breaks: BreaksPassed, n: usize) -> Parted
+fn parted_by(breaks: BreaksPassed, n: usize) -> Answer
     ensures { result ≡ parted_by breaks n }
 {
-    let unlike = breaks.unlike;
-    if unlike == 0 {
-        return Parted::Alike(break_of(breaks.first), n);
+    match breaks.unlike {
+        None => Ok((n, breaks.first.unwrap_or(Break::Lf))),
+        Some(i) => Err(Fault::MixedBreaks(i)),
     }
-    Parted::Unlike(unlike)
 }
 
-// How the lines of any bytes are parted, break after break.
-pub fn parts(s: &[u8]) -> Parted
+// How the lines of any bytes are parted, break after break: how many they are, and the kind of all breaks, LF where there is
+// none; or the line that the first break unlike the first one ends.
+pub fn parts(s: &[u8]) -> Answer
     ensures { result ≡ breaks_in s.now }
 {
     let mut breaks = NO_BREAKS;
@@ -208,7 +188,7 @@ pub fn parts(s: &[u8]) -> Parted
         if next == end {
             return parted_by(breaks, n);
         }
-        breaks = held(breaks, next - end, n);
+        breaks = held(breaks, break_of(next - end), n);
         at = next;
         n += 1;
     }

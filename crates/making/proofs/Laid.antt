@@ -2,9 +2,9 @@
 use Prim.Native.Nat.{ℕ, ◌+◌, ◌-◌, ◌≤◌}
 use native.Mathlib.Nat.{sub-zero}
 use native.Mathlib.Omega.{arith}
-use mathlib.Core.List.{[], ◌∷◌, ◌++◌, append_assoc}
-use mathlib.Core.Path.{◌≡◌, refl, sym}
-use lib.ListN.{length, take, drop, set, length-append, length-drop}
+use mathlib.Core.List.{◌++◌, append_assoc}
+use mathlib.Core.Path.{◌≡◌, sym}
+use lib.ListN.{length, take, drop, length-append, length-drop}
 use lib.Seq.{take_at, drop_at, drop-drop, take-append_seam, drop-append_seam, length-take-le}
 use borrow.Rule.Slice.PartMut.{mid_of, put_mid}
 use Rattle.sieve.specs.Bytes.{Bytes, ascii, over}
@@ -24,14 +24,6 @@ laid_behind d x w n e = rw (← e) behind
     behind =
         let rest : drop (length x + length w) (over d x) ≡ drop (length (x ++ w)) d = rw (← drop-drop (length w) (length x) (over d x), drop-append_seam x (drop (length x) d), length-append x w) (drop-drop (length w) (length x) d) in
         rw (take-append_seam x (drop (length x) d), rest) (sym (append_assoc x w (drop (length (x ++ w)) d)))
-
--- two bytes stored in the place of the pair
-pub two_stored : (s : Bytes) (x y : ℕ) → 4 ≤ length s → set (set s 2 x) 3 y ≡ take 2 s ++ (x ∷ y ∷ drop 4 s)
-two_stored [] x y h = absurd (omega arith)
-two_stored (a ∷ []) x y h = absurd (omega arith)
-two_stored (a ∷ b ∷ []) x y h = absurd (omega arith)
-two_stored (a ∷ b ∷ c ∷ []) x y h = absurd (omega arith)
-two_stored (a ∷ b ∷ c ∷ e ∷ s) x y h = refl
 
 -- with 00 in that place, the pair that is due comes there
 pub pair_due : (head rest : Bytes) → length head ≡ 2 → with_pair_set (head ++ (ascii "00" ++ rest)) ≡ with_pair head rest

@@ -8,8 +8,8 @@ use lib.ListN.{length}
 use borrow.Author.Tests.{eqb-true, ltb-true, ltb-false, lt-ltb, le-ltb}
 use Rattle.sieve.specs.declared.Fault.{Fault}
 use Rattle.sieve.specs.declared.Fault.TheVariants.{BadForm, NoRoom}
-use Rattle.sieve.specs.declared.Written.{Written}
-use Rattle.sieve.specs.declared.Written.TheVariants.{Length, Refused}
+use Rattle.sieve.specs.Paper.{Written}
+use Rattle.std.specs.Prelude.{Ok, Err}
 use Rattle.sieve.specs.Bytes.{Bytes, over}
 use Rattle.sieve.specs.Verdict.{first}
 use Rattle.sieve.proofs.PaperLosesNothing.{one_written}
@@ -27,22 +27,22 @@ module _ {formed : Bool} {made dest : Bytes} where
   one_making {q} {r} h k = (one_written q r (h.answer ∙ sym k.answer), h.lent ∙ sym k.lent)
 
   -- parts that are not of their form are refused under 10, and nothing changes
-  pub not_formed : formed ≡ false → IsMade formed made dest (Refused (BadForm 0)) dest
+  pub not_formed : formed ≡ false → IsMade formed made dest (Err (BadForm 0)) dest
   unfolding make_answer first
   not_formed e = record { answer = rw e; lent = rw e }
 
   -- then too little room is refused under 15, and nothing changes
-  pub no_room : formed ≡ true → length dest < length made → IsMade formed made dest (Refused NoRoom) dest
+  pub no_room : formed ≡ true → length dest < length made → IsMade formed made dest (Err NoRoom) dest
   unfolding make_answer first
   no_room e h = record { answer = rw (e, lt-ltb (length dest) (length made) h); lent = rw (e, lt-ltb (length dest) (length made) h) }
 
   -- else the number lies in the front, and what lies behind it stays
-  pub is_laid : {n : ℕ} {after : Bytes} → formed ≡ true → length made ≤ length dest → n ≡ length made → after ≡ over dest made → IsMade formed made dest (Length n) after
+  pub is_laid : {n : ℕ} {after : Bytes} → formed ≡ true → length made ≤ length dest → n ≡ length made → after ≡ over dest made → IsMade formed made dest (Ok n) after
   unfolding make_answer first
   is_laid e h n a = record { answer = rw (e, le-ltb (length dest) (length made) h, n); lent = rw (e, le-ltb (length dest) (length made) h) a }
 
   -- so what is laid is the number, of parts that are of their form
-  pub laid_is_made : {n : ℕ} {after : Bytes} → IsMade formed made dest (Length n) after → (formed ≡ true) × (n ≡ length made) × (after ≡ over dest made)
+  pub laid_is_made : {n : ℕ} {after : Bytes} → IsMade formed made dest (Ok n) after → (formed ≡ true) × (n ≡ length made) × (after ≡ over dest made)
   laid_is_made {n} {after} h = by_cases formed refl (ltb (length dest) (length made)) refl
     where
       by_cases : (f : Bool) → formed ≡ f → (b : Bool) → ltb (length dest) (length made) ≡ b → (formed ≡ true) × (n ≡ length made) × (after ≡ over dest made)
@@ -54,7 +54,7 @@ module _ {formed : Bool} {made dest : Bytes} where
           (e, same, l)
 
   -- and a refusal changes nothing
-  pub refusal_changes_nothing : {f : Fault} {after : Bytes} → IsMade formed made dest (Refused f) after → after ≡ dest
+  pub refusal_changes_nothing : {f : Fault} {after : Bytes} → IsMade formed made dest (Err f) after → after ≡ dest
   refusal_changes_nothing {f} {after} h = by_cases formed refl (ltb (length dest) (length made)) refl
     where
       by_cases : (g : Bool) → formed ≡ g → (b : Bool) → ltb (length dest) (length made) ≡ b → after ≡ dest

@@ -1,9 +1,9 @@
 -- Tests taken apart into facts and back, and a text of two characters, a pair and a rest. Assumes nothing.
 use Prim.Native.Nat.{ℕ, ◌≤◌}
-use mathlib.Core.Bool.{Bool, true, false, ◌&&◌, and-false, and-eq-true_iff}
+use mathlib.Core.Bool.{Bool, true, ◌&&◌, and-eq-true_iff}
 use mathlib.Core.List.{◌++◌}
 use mathlib.Core.Logic.{◌↔◌}
-use mathlib.Core.Path.{◌≡◌, refl}
+use mathlib.Core.Path.{◌≡◌}
 use lib.Dec.{eqb}
 use lib.ListN.{length, take, drop, take-append-drop}
 use lib.Seq.{drop-drop}
@@ -16,14 +16,6 @@ all3 a b c = (λ e. let t = (and-eq-true_iff (a && b) c).0 e in let u = (and-eq-
 
 pub all4 : (a b c d : Bool) → ((a && b && c && d) ≡ true) ↔ ((a ≡ true) × (b ≡ true) × (c ≡ true) × (d ≡ true))
 all4 a b c d = (λ e. let t = (and-eq-true_iff (a && b && c) d).0 e in let u = (all3 a b c).0 t.0 in (u.0, u.1, u.2, t.1), λ k. rw (k.0, k.1, k.2) k.3)
-
--- the second of three fails, or the third
-pub not_second : (a b c : Bool) → b ≡ false → false ≡ (a && b && c)
-not_second true b c e = rw e
-not_second false b c e = refl
-
-pub not_third : (a b c : Bool) → c ≡ false → false ≡ (a && b && c)
-not_third a b c e = rw (e, and-false (a && b))
 
 -- as many as said, each of a kind
 pub is_just : (n : ℕ) (f : ℕ → Bool) (s : Bytes) → ((eqb (length s) n && every f s) ≡ true) ↔ ((length s ≡ n) × (every f s ≡ true))

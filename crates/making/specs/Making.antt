@@ -2,9 +2,8 @@
 use Rattle.std.specs.Prelude.{Bool, true, not, [], ◌∷◌, ◌++◌, ◌≡◌, length}
 use Rattle.std.specs.Borrow.{Bor, MutBor}
 use denote.Triple.Both.{Both}
-use Rattle.sieve.specs.declared.Written.{Written}
+use Rattle.sieve.specs.Paper.{Written, Laying, paper_written}
 use Rattle.sieve.specs.Bytes.{Bytes, over}
-use Rattle.sieve.specs.Paper.{Laying, paper_written}
 use Rattle.sieve.specs.Reading.{Done, no_room_refusal}
 use Rattle.sieve.specs.Verdict.{under, found, first}
 use Rattle.sieve.specs.Writing.{laid_onto}

@@ -36,14 +36,14 @@ pub fn make_qrr(digits: &[u8], dest: &mut [u8]) -> Written
 {
     if qrr_part(digits) {
         if dest.len() < 27 {
-            return Written::Refused(Fault::NoRoom);
+            return Err(Fault::NoRoom);
         }
         let last = [check_digit_of_digits(digits)];
         lay_at(dest, 0, digits);
         lay_at(dest, 26, &last);
-        return Written::Length(27);
+        return Ok(27);
     }
-    Written::Refused(Fault::BadForm(0))
+    Err(Fault::BadForm(0))
 }
 
 // Puts the pair that is due in the place of the pair 00. The remainder by 97 is that of the rest, the head and 00.
@@ -78,10 +78,10 @@ fn make_with_pair(head: &[u8], first: &[u8], second: &[u8], dest: &mut [u8]) -> 
 {
     let n = 4 + first.len() + second.len();
     if dest.len() < n {
-        return Written::Refused(Fault::NoRoom);
+        return Err(Fault::NoRoom);
     }
     lay_with_pair(head, first, second, dest);
-    Written::Length(n)
+    Ok(n)
 }
 
 // 1 to 21 of A-Z a-z 0-9.
@@ -98,7 +98,7 @@ pub fn make_scor(reference: &[u8], dest: &mut [u8]) -> Written
     if scor_part(reference) {
         return make_with_pair(&Edition::CREDITOR_MARK, reference, b"", dest);
     }
-    Written::Refused(Fault::BadForm(0))
+    Err(Fault::BadForm(0))
 }
 
 // CH or LI; five digits; twelve of 0-9 A-Z. The lengths are asked first: of a known number of bytes the compiler asks 16 at
@@ -124,5 +124,5 @@ pub fn make_iban(country: &[u8], iid: &[u8], account: &[u8], dest: &mut [u8]) ->
     if iban_parts(country, iid, account) {
         return make_with_pair(country, iid, account, dest);
     }
-    Written::Refused(Fault::BadForm(0))
+    Err(Fault::BadForm(0))
 }

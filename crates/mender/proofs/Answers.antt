@@ -1,5 +1,5 @@
 -- How a mending ends, by what is found. Assumes nothing.
-use Prim.Native.Nat.{ℕ, ◌+◌, ◌-◌, ◌≤◌, ◌<◌}
+use Prim.Native.Nat.{ℕ, ◌-◌, ◌≤◌, ◌<◌}
 use native.Mathlib.Nat.{sub-zero}
 use native.Mathlib.Omega.{arith}
 use mathlib.Core.Option.{some, none}
@@ -7,15 +7,13 @@ use mathlib.Core.Path.{◌≡◌, sym, ap, ◌∙◌}
 use lib.ListN.{length, take}
 use lib.Seq.{take-take}
 use borrow.Author.Tests.{lt-ltb, le-ltb}
-use Rattle.sieve.specs.declared.Answer.{Answer}
-use Rattle.sieve.specs.declared.Answer.TheVariants.{Accepted, Refused as NotRead}
+use Rattle.sieve.specs.Paper.{Answer, paper, paper_fault}
+use Rattle.std.specs.Prelude.{Ok, Err}
 use Rattle.sieve.specs.declared.Break.{Break}
 use Rattle.sieve.specs.declared.Fault.{Fault}
-use Rattle.sieve.specs.declared.Fault.TheVariants.{NoRoom, TooManyBytes}
+use Rattle.sieve.specs.declared.Fault.TheVariants.{TooManyBytes}
 use Rattle.sieve.specs.Bytes.{Bytes}
-use Rattle.sieve.specs.Characters.{line_feeds}
 use Rattle.sieve.specs.Lines.{bill_of}
-use Rattle.sieve.specs.Paper.{paper, paper_fault}
 use Rattle.sieve.specs.Reading.{no_room_refusal}
 use Rattle.sieve.specs.Verdict.{Refusal, accepted, refused, findings, first, verdict}
 use Rattle.sieve.proofs.Findings.{settled_accepts, settled_refuses, verdict_is}
@@ -25,18 +23,13 @@ use Rattle.runs.proofs.Lays.{laid_in_lem}
 use Rattle.swiss.specs.Swiss.{swiss}
 use Rattle.mender.specs.declared.Repairs.{Repairs}
 use Rattle.mender.specs.declared.Swept.{Swept}
-use Rattle.mender.specs.declared.Mended.{Mended}
-use Rattle.mender.specs.declared.Mended.TheVariants.{Length, Refused}
 use Rattle.mender.specs.Steps.{as_lf, despaced, reworked}
 use Rattle.mender.specs.Sweeping.{IsSwept, IsEnd}
-use Rattle.mender.specs.Mending.{Mend, mend_of, as_it_came, mend_by_steps, repairs_of, mend, mended_findings, mend_findings, most_mended, mend_answer, EndsByRoom, EndsByReader, IsMended}
+use Rattle.mender.specs.Mending.{Mend, mend_of, as_it_came, mend_by_steps, repairs_of, mend, mended_findings, mend_findings, most_mended, mend_answer, EndsByRoom, EndsByReader, IsMended, Mended}
 
 -- room is asked last
 module _ (m : Mend) (dest : Bytes) where
-  pub no_room : length dest < length m.bytes → EndsByRoom m dest (Refused NoRoom) dest
-  no_room h = let e = lt-ltb _ _ h in record { answer = rw e; lent = rw e }
-
-  pub within_room : length m.bytes ≤ length dest → {after : Bytes} → after ≡ over_fitting dest m.bytes → EndsByRoom m dest (Length (length m.bytes) m.repairs) after
+  pub within_room : length m.bytes ≤ length dest → {after : Bytes} → after ≡ over_fitting dest m.bytes → EndsByRoom m dest (Ok ((length m.bytes), m.repairs)) after
   within_room h l = let e = le-ltb _ _ h in record { answer = rw e; lent = rw e (l ∙ laid_in_lem dest m.bytes h) }
 
 -- what the reader answers on bytes is what it finds in them
@@ -48,12 +41,12 @@ refused_some p r v = settled_refuses (bill_of p) (first (findings swiss p)) r (s
 
 module _ (m : Mend) (dest : Bytes) {a : Answer} (is : paper a ≡ verdict swiss m.bytes) where
   -- the reader refuses mended bytes
-  pub by_refusal : {f : Fault} → a ≡ NotRead f → EndsByReader m dest (Refused f) dest
+  pub by_refusal : {f : Fault} → a ≡ Err f → EndsByReader m dest (Err f) dest
   unfolding first
   by_refusal {f} e = let o = refused_some m.bytes (paper_fault f) (sym is ∙ ap paper e) in record { answer = rw o; lent = rw o }
 
   -- it accepts them: then room
-  pub by_room : {n : ℕ} {k : Break} → a ≡ Accepted n k → {r : Mended} {after : Bytes} → EndsByRoom m dest r after
+  pub by_room : {n : ℕ} {k : Break} → a ≡ Ok (n, k) → {r : Mended} {after : Bytes} → EndsByRoom m dest r after
       → EndsByReader m dest r after
   unfolding first
   by_room {n} {k} e h =
@@ -64,10 +57,6 @@ module _ (m : Mend) (dest : Bytes) {a : Answer} (is : paper a ≡ verdict swiss 
 -- the same bytes and repairs end in the same way
 pub same_mend : {b c : Bytes} {m n : Repairs} → b ≡ c → m ≡ n → {dest after : Bytes} {r : Mended} → EndsByRoom (mend_of b m) dest r after → EndsByRoom (mend_of c n) dest r after
 same_mend e f h = rw (← e, ← f) h
-
--- the lines that a sweep counts are those of the bytes that it leaves
-pub lines_are : {p room : Bytes} {r : Swept} → IsSwept p r room → r.lines ≡ 1 + line_feeds (take (r.bytes - 0) room)
-lines_are sw = rw (sub-zero, sw.bytes) sw.lines
 
 -- the bytes that the reader is asked about, and the repairs
 module _ {p room : Bytes} {r : Swept} {end : ℕ} (sw : IsSwept p r room) (e : IsEnd (take (r.bytes - 0) room) end) where
@@ -92,7 +81,7 @@ module _ {p room : Bytes} {r : Swept} {end : ℕ} (sw : IsSwept p r room) (e : I
 -- the whole answer
 module _ (p dest : Bytes) where
   -- too many bytes to mend
-  pub too_many : most_mended < length p → IsMended p dest (Refused TooManyBytes) dest
+  pub too_many : most_mended < length p → IsMended p dest (Err TooManyBytes) dest
   unfolding mend_answer mend_findings first
   too_many h = let e = lt-ltb _ _ h in record { answer = rw e; lent = rw e }
 
@@ -104,13 +93,13 @@ module _ (p dest : Bytes) where
         record { answer = rw (e, f) h.answer; lent = rw (e, f) h.lent }
 
     -- what the reader accepts
-    pub whole_accepted : {a : Answer} {n : ℕ} {k : Break} → paper a ≡ verdict swiss p → a ≡ Accepted n k → {r : Mended} {after : Bytes}
+    pub whole_accepted : {a : Answer} {n : ℕ} {k : Break} → paper a ≡ verdict swiss p → a ≡ Ok (n, k) → {r : Mended} {after : Bytes}
         → EndsByRoom (as_it_came p) dest r after → IsMended p dest r after
     unfolding mend
     whole_accepted {n = n} {k = k} is e h = let v : verdict swiss p ≡ accepted n k = sym is ∙ ap paper e in ends_so (as_it_came p) (rw v) (by_room (as_it_came p) dest is e h)
 
     -- what it refuses
-    pub whole_reworked : {a : Answer} {f : Fault} → paper a ≡ verdict swiss p → a ≡ NotRead f → {r : Mended} {after : Bytes}
+    pub whole_reworked : {a : Answer} {f : Fault} → paper a ≡ verdict swiss p → a ≡ Err f → {r : Mended} {after : Bytes}
         → EndsByReader (mend_by_steps p) dest r after → IsMended p dest r after
     unfolding mend
     whole_reworked {f = f} is e h = let v : verdict swiss p ≡ refused (paper_fault f) = sym is ∙ ap paper e in ends_so (mend_by_steps p) (rw v) h

@@ -1,26 +1,21 @@
 -- A sweep over a payload, byte by byte: what is known before a byte is known after it. Assumes nothing.
-use Prim.Native.Nat.{ℕ, ◌+◌, ◌≤◌, ◌<◌}
+use Prim.Native.Nat.{ℕ, ◌+◌, ◌≤◌}
 use native.Mathlib.Numerals.{add-one}
 use native.Mathlib.Omega.{arith}
-use mathlib.Core.Bool.{Bool, true, false, cond, and-eq-true_iff}
+use mathlib.Core.Bool.{true, false, cond}
 use mathlib.Core.List.{[], ◌∷◌, append-nil}
 use mathlib.Core.Path.{◌≡◌, refl, sym, ap, ◌∙◌}
-use lib.Dec.{eqb, ltb}
+use lib.Dec.{eqb}
 use lib.ListN.{length, take, drop, get_or, drop_of_length-le}
 use lib.Seq.{drop-cons, length-take-le}
-use borrow.Author.Tests.{ltb-true}
 use Rattle.sieve.specs.Bytes.{Bytes}
 use Rattle.sieve.specs.Characters.{line_feeds}
 use Rattle.mender.specs.declared.Reach.{Reach}
 use Rattle.mender.specs.declared.Tally.{Tally}
 use Rattle.mender.specs.Steps.{as_lf, despaced, how_many}
-use Rattle.mender.specs.Sweeping.{Carries, swept, CanPut, Farther, firm_at, SweptTo, CanPass, IsSwept}
+use Rattle.mender.specs.Sweeping.{Carries, swept, Farther, SweptTo, CanPass, IsSwept}
 use Rattle.mender.proofs.Counted.{despaced_fewer}
 use Rattle.mender.proofs.Sweeps.{swept_none, pending_end, pending_none}
-
--- where a byte over 32 stands, a byte stands
-pub firm_inside : (p : Bytes) (i : ℕ) {b : Bool} → b ≡ firm_at p i → b ≡ true → i < length p
-firm_inside p i is firm = ltb-true i (length p) ((and-eq-true_iff (ltb i (length p)) (ltb 32 (get_or p i 0))).0 (sym is ∙ firm)).0
 
 pub first_byte : (p room : Bytes) → SweptTo p 0 (record { reach = record { at = 0; solid = 0; line = 1 }; breaks = 0; pairs = 0 }) room
 unfolding swept line_feeds
@@ -46,11 +41,6 @@ module _ (p : Bytes) (i : ℕ) (t : Tally) (room : Bytes) (can : CanPass p i t r
 
   here : drop i p ≡ x ∷ behind
   here = rw add-one (drop-cons p i 0 can.more)
-
-  pub can_put : CanPut t.reach room
-  can_put =
-      let passed = can.passed in
-      record { ordered = passed.so_far.ordered; within_room = omega (arith, passed.few, can.more, can.fits); few_lines = omega (arith, passed.few_lines, can.more, can.few) }
 
   crs_after : how_many 13 (drop i p) ≡ cond (eqb x 13) 1 0 + how_many 13 behind
   unfolding how_many

@@ -6,7 +6,7 @@ use mathlib.Core.Path.{◌≡◌, refl, sym, ap, subst₂, ◌∙◌}
 use lib.ListN.{length, take, drop}
 use lib.Seq.{take-append_seam}
 use borrow.Author.Tests.{ltb-false}
-use Rattle.sieve.specs.declared.Answer.TheVariants.{Accepted}
+use Rattle.std.specs.Prelude.{Ok, Err}
 use Rattle.sieve.specs.declared.Break.{Break}
 use Rattle.sieve.specs.declared.Fault.{Fault}
 use Rattle.sieve.specs.Bytes.{Bytes, over}
@@ -19,9 +19,7 @@ use Rattle.runs.specs.Laid.{over_fitting}
 use Rattle.runs.proofs.Lays.{laid_in_lem}
 use Rattle.swiss.specs.Swiss.{swiss}
 use Rattle.mender.specs.declared.Repairs.{Repairs}
-use Rattle.mender.specs.declared.Mended.{Mended}
-use Rattle.mender.specs.declared.Mended.TheVariants.{Length, Refused}
-use Rattle.mender.specs.Mending.{mended, not_mended, most_mended, no_repairs, as_it_came, repairs_of, mend_by, mend, mend_findings, mended_onto, mend_answer, paper_mended, IsMended}
+use Rattle.mender.specs.Mending.{mended, not_mended, most_mended, no_repairs, as_it_came, repairs_of, mend_by, mend, mend_findings, mended_onto, mend_answer, paper_mended, IsMended, Mended}
 use Rattle.mender.specs.Promised.{Like, firm_bytes, AddsUp, Mends, came_unchanged, by_steps, AreFew}
 use Rattle.mender.specs.Steps.{reworked}
 use Rattle.mender.proofs.Likeness.{reworked_like, same_firm}
@@ -29,10 +27,10 @@ use Rattle.mender.proofs.Counted.{few_of, adds_up}
 use Rattle.mender.proofs.Answers.{accepted_none, within_room, whole_accepted}
 
 one_mended : (q r : Mended) → paper_mended q ≡ paper_mended r → q ≡ r
-one_mended (Length n c) (Length m d) e = let f : n ≡ m = cc in let g : c ≡ d = cc in cc
-one_mended (Length n c) (Refused f) e = let z : ◌≡◌ {A = ℕ} 0 1 = cc in absurd (omega arith)
-one_mended (Refused f) (Length n c) e = let z : ◌≡◌ {A = ℕ} 0 1 = cc in absurd (omega arith)
-one_mended (Refused f) (Refused g) e = ap Refused (one_fault f g cc)
+one_mended (Ok (n, c)) (Ok (m, d)) e = let f : n ≡ m = cc in let g : c ≡ d = cc in cc
+one_mended (Ok (n, c)) (Err f) e = let z : ◌≡◌ {A = ℕ} 0 1 = cc in absurd (omega arith)
+one_mended (Err f) (Ok (n, c)) e = let z : ◌≡◌ {A = ℕ} 0 1 = cc in absurd (omega arith)
+one_mended (Err f) (Err g) e = ap Err (one_fault f g cc)
 
 -- one answer, and one content of the destination
 pub one_mending : {p dest : Bytes} {q r : Mended} {a b : Bytes} → IsMended p dest q a → IsMended p dest r b → (q ≡ r) × (a ≡ b)
@@ -49,10 +47,10 @@ short p nothing = ltb-false 997 (length p) (found_none _ _ (clear swiss p nothin
 
 -- so the mender writes it as it is, given room
 pub accepted_comes_back : (p dest : Bytes) {after : Bytes} {r : Mended} (n : ℕ) (k : Break) → verdict swiss p ≡ accepted n k → length p ≤ length dest → IsMended p dest r after
-    → (r ≡ Length (length p) no_repairs) × (after ≡ over dest p)
+    → (r ≡ Ok ((length p), no_repairs)) × (after ≡ over dest p)
 accepted_comes_back p dest n k v fits h =
     let few : length p ≤ most_mended = omega (arith, short p (accepted_none p n k v)) in
-    let made : IsMended p dest (Length (length p) no_repairs) (over_fitting dest p) = whole_accepted p dest few {a = Accepted n k} (sym v) refl (within_room (as_it_came p) dest fits refl) in
+    let made : IsMended p dest (Ok ((length p), no_repairs)) (over_fitting dest p) = whole_accepted p dest few {a = Ok (n, k)} (sym v) refl (within_room (as_it_came p) dest fits refl) in
     let (e, l) = one_mending h made in
     (e, l ∙ laid_in_lem dest p fits)
 
@@ -61,7 +59,7 @@ pub record RefusedSo (p dest after : Bytes) (f : Fault) : Type 0 where
   pub is_found : first (mend_findings p (mend p).bytes (length dest)) ≡ some (paper_fault f)
   pub unchanged : after ≡ dest
 
-pub refusal_changes_nothing : {p dest after : Bytes} {f : Fault} → IsMended p dest (Refused f) after → RefusedSo p dest after f
+pub refusal_changes_nothing : {p dest after : Bytes} {f : Fault} → IsMended p dest (Err f) after → RefusedSo p dest after f
 unfolding mend_answer
 refusal_changes_nothing {p} {dest} {after} {f} h = by_cases (first (mend_findings p (mend p).bytes (length dest))) refl h.answer h.lent
   where
@@ -76,7 +74,7 @@ pub record WrittenSo (p dest after : Bytes) (n : ℕ) (c : Repairs) : Type 0 whe
   pub repairs : c ≡ (mend p).repairs
   pub nothing_found : first (mend_findings p (mend p).bytes (length dest)) ≡ none
 
-pub written_so : {p dest after : Bytes} {n : ℕ} {c : Repairs} → IsMended p dest (Length n c) after → WrittenSo p dest after n c
+pub written_so : {p dest after : Bytes} {n : ℕ} {c : Repairs} → IsMended p dest (Ok (n, c)) after → WrittenSo p dest after n c
 unfolding mend_answer
 written_so {p} {dest} {after} {n} {c} h = by_cases (first (mend_findings p (mend p).bytes (length dest))) refl h.answer h.lent
   where
@@ -101,7 +99,7 @@ same_firms : {p out : Bytes} {c : Repairs} → Mends p out c → firm_bytes out 
 same_firms came_unchanged = refl
 same_firms (by_steps like a) = sym (same_firm like)
 
-module _ {p dest after : Bytes} {n : ℕ} {c : Repairs} (h : IsMended p dest (Length n c) after) where
+module _ {p dest after : Bytes} {n : ℕ} {c : Repairs} (h : IsMended p dest (Ok (n, c)) after) where
   abbrev out : Bytes
   out = (mend p).bytes
 
@@ -122,7 +120,7 @@ module _ {p dest after : Bytes} {n : ℕ} {c : Repairs} (h : IsMended p dest (Le
   mended_stays = accepted_is_unchanged (take n after) _ _ written_is_accepted
 
   pub mended_again : {room later : Bytes} {r : Mended} → length (take n after) ≤ length room → IsMended (take n after) room r later
-      → (r ≡ Length (length (take n after)) no_repairs) × (later ≡ over room (take n after))
+      → (r ≡ Ok ((length (take n after)), no_repairs)) × (later ≡ over room (take n after))
   mended_again {room} = accepted_comes_back (take n after) room _ _ written_is_accepted
 
   -- no other byte differs, and the counts say exactly what went

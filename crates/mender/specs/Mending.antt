@@ -1,14 +1,13 @@
 -- The mender's whole answer for any payload and any destination, and what the destination then holds. Assumes nothing.
-use Rattle.std.specs.Prelude.{ℕ, ◌-◌, List, [], ◌∷◌, ◌≡◌, ltb, length}
+use Rattle.std.specs.Prelude.{ℕ, ◌-◌, List, [], ◌∷◌, ◌≡◌, ltb, length, Result, Ok, Err}
 use Rattle.std.proofs.Math.Option.{Option, some, none}
 use Rattle.sieve.specs.Bytes.{Bytes, over}
 use Rattle.sieve.specs.Paper.{paper_fault}
 use Rattle.sieve.specs.Reading.{Done, no_room_refusal}
 use Rattle.sieve.specs.Verdict.{Refusal, Verdict, accepted, refused, under, found, findings, first, verdict}
 use Rattle.swiss.specs.Swiss.{swiss}
+use Rattle.sieve.specs.declared.Fault.{Fault}
 use Rattle.mender.specs.declared.Repairs.{Repairs}
-use Rattle.mender.specs.declared.Mended.{Mended}
-use Rattle.mender.specs.declared.Mended.TheVariants.{Length, Refused}
 use Rattle.mender.specs.Steps.{as_lf, despaced, reworked, how_many}
 
 abbrev pub most_mended : ℕ
@@ -61,9 +60,12 @@ pub data Mending : Type 0 where
   mended : ℕ → Repairs → Mending
   not_mended : Refusal → Mending
 
+abbrev pub Mended : Type 0
+Mended = Result (ℕ × Repairs) Fault
+
 abbrev pub paper_mended : Mended → Mending
-paper_mended (Length n c) = mended n c
-paper_mended (Refused f) = not_mended (paper_fault f)
+paper_mended (Ok (n, c)) = mended n c
+paper_mended (Err f) = not_mended (paper_fault f)
 
 -- the mended bytes, in the front of the destination, where nothing is found
 abbrev pub mended_onto : Mend → Bytes → Option Refusal → Done Mending

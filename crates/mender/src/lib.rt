@@ -28,13 +28,8 @@ pub struct Repairs {
     pub lines: usize,
 }
 
-// What the mender answers.
-#[derive(Clone, Copy)]
-pub enum Mended {
-    // how many bytes were written, and what was counted
-    Length(usize, Repairs),
-    Refused(Fault),
-}
+// What the mender answers: how many bytes were written, and what was counted; or why none were.
+pub type Mended = Result<(usize, Repairs), Fault>;
 
 // How far bytes are laid: to `at`, of which those from `solid` on are spaces, which stay only where their line goes on.
 #[derive(Clone, Copy)]
@@ -67,34 +62,25 @@ fn put(x: u8, s: Reach, room: &mut [u8]) -> Reach
     ensures farther { Farther s result }
     ensures carries { Carries x s room.old result room.new }
 {
-    let at = s.at;
-    let solid = s.solid;
-    let line = s.line;
     if x == 10 {
-        room[solid] = 10;
+        room[s.solid] = 10;
+        let at = s.solid + 1;
         return Reach {
-            at: solid + 1,
-            solid: solid + 1,
-            line: line + 1,
+            at,
+            solid: at,
+            line: s.line + 1,
         };
     }
     if x == 32 {
-        if (line == 4) | (line == 29) {
+        if (s.line == 4) | (s.line == 29) {
             return s;
         }
-        room[at] = 32;
-        return Reach {
-            at: at + 1,
-            solid: solid,
-            line: line,
-        };
+        room[s.at] = 32;
+        return Reach { at: s.at + 1, ..s };
     }
-    room[at] = x;
-    Reach {
-        at: at + 1,
-        solid: at + 1,
-        line: line,
-    }
+    room[s.at] = x;
+    let at = s.at + 1;
+    Reach { at, solid: at, ..s }
 }
 
 // Passes one byte more of a payload: what held before it holds after it.
@@ -102,33 +88,18 @@ fn pass_byte(payload: &[u8], i: usize, t: Tally, room: &mut [u8]) -> Tally
     requires { CanPass payload.now i t room.old }
     ensures { SweptTo payload.now (i + 1) result room.new }
 {
-    let reach = t.reach;
-    let breaks = t.breaks;
-    let pairs = t.pairs;
     let x = payload[i];
     if x != 13 {
-        let next = put(x, reach, room);
-        return Tally {
-            reach: next,
-            breaks: breaks,
-            pairs: pairs,
-        };
+        let reach = put(x, t.reach, room);
+        return Tally { reach, ..t };
     }
-    let more = breaks + 1;
+    let breaks = t.breaks + 1;
     if feed_after(payload, i) {
-        let two = pairs + 1;
-        return Tally {
-            reach: reach,
-            breaks: more,
-            pairs: two,
-        };
+        let pairs = t.pairs + 1;
+        return Tally { breaks, pairs, ..t };
     }
-    let next = put(10, reach, room);
-    Tally {
-        reach: next,
-        breaks: more,
-        pairs: pairs,
-    }
+    let reach = put(10, t.reach, room);
+    Tally { reach, breaks, ..t }
 }
 
 // Whether a byte over 32, which is neither a space nor of a break, stands at a place.
@@ -187,13 +158,11 @@ fn end_of(bytes: &[u8], lines: usize) -> usize
     ensures { IsEnd bytes.now result }
 {
     let mut end = bytes.len();
-    let mut left = lines;
-    while Edition::FEWEST_LINES < left {
+    for _ in Edition::FEWEST_LINES..lines {
         if bytes[end - 1] != 10 {
             return end;
         }
         end -= 1;
-        left -= 1;
     }
     end
 }
@@ -203,10 +172,10 @@ fn lay_mended(bytes: &[u8], repairs: Repairs, dest: &mut [u8]) -> Mended
     ensures { EndsByRoom (mend_of bytes.now repairs) dest.old result dest.new }
 {
     if dest.len() < bytes.len() {
-        return Mended::Refused(Fault::NoRoom);
+        return Err(Fault::NoRoom);
     }
     lay(dest, bytes);
-    Mended::Length(bytes.len(), repairs)
+    Ok((bytes.len(), repairs))
 }
 
 // The four steps, made in a room of their own, since a refusal changes no byte of the destination.
@@ -223,10 +192,8 @@ fn rework_in(payload: &[u8], room: &mut [u8], dest: &mut [u8]) -> Mended
         spaces: payload.len() - swept.pairs - all,
         lines: all - end,
     };
-    match verdict(&room[0..end]) {
-        Answer::Refused(f) => Mended::Refused(f),
-        Answer::Accepted(_, _) => lay_mended(&room[0..end], repairs, dest),
-    }
+    verdict(&room[0..end])?;
+    lay_mended(&room[0..end], repairs, dest)
 }
 
 // The four steps on a payload that the reader refuses. A room is cleared before it is used, and one of 2,048 bytes or more
@@ -249,10 +216,10 @@ pub fn mend(payload: &[u8], dest: &mut [u8]) -> Mended
     ensures { IsMended payload.now dest.old result dest.new }
 {
     if MOST < payload.len() {
-        return Mended::Refused(Fault::TooManyBytes);
+        return Err(Fault::TooManyBytes);
     }
     match verdict(payload) {
-        Answer::Accepted(_, _) => {
+        Ok(_) => {
             let none = Repairs {
                 breaks: 0,
                 spaces: 0,
@@ -260,6 +227,6 @@ pub fn mend(payload: &[u8], dest: &mut [u8]) -> Mended
             };
             lay_mended(payload, none, dest)
         }
-        Answer::Refused(_) => rework(payload, dest),
+        Err(_) => rework(payload, dest),
     }
 }

@@ -53,9 +53,6 @@ pub record Carried (s : Bytes) (c i : ℕ) : Type 0 where
   pub small : c < 10
   pub same : carry 0 s ≡ carry c (drop i s)
 
-pub none_carried : (s : Bytes) → Carried s 0 0
-none_carried s = record { few = omega arith; small = omega arith; same = refl }
-
 module _ {s : Bytes} {c i : ℕ} (so_far : Carried s c i) where
   pub one_carried : {r : ℕ} → i < length s → r ≡ next_after c (get_or s i 0) → Carried s r (i + 1)
   one_carried h e =

@@ -14,7 +14,7 @@ const NEXT_CARRY: [u8; 20] = [0, 9, 4, 6, 8, 2, 7, 1, 3, 5, 0, 9, 4, 6, 8, 2, 7,
 fn digit_value(x: u8) -> u8
     ensures { result ≡ x - 48 }
 {
-    if x < 48 { 0 } else { x - 48 }
+    x.saturating_sub(b'0')
 }
 
 // The carry c after one digit more. The table is lent, since each function that names a constant array stores it anew.
@@ -34,7 +34,7 @@ fn carry_after(table: &[u8; 20], c: u8, x: u8) -> u8
     requires { (c < 10) × (table.now ≡ next_carry ++ next_carry) × (digit x ≡ true) }
     ensures { result ≡ get_or next_carry ((c + (x - 48)) % 10) 0 }
 {
-    table[(c + (x - 48)) as usize]
+    table[(c + (x - b'0')) as usize]
 }
 
 // The check digit, as a byte, that a carry leaves. Under carry 0 it is 0 and not 10.
@@ -51,10 +51,8 @@ pub fn check_digit(s: &[u8]) -> u8
 {
     let table = NEXT_CARRY;
     let mut c = 0;
-    let mut i = 0;
-    while i < s.len() {
-        c = next_carry(&table, c, s[i]);
-        i += 1;
+    for x in s {
+        c = next_carry(&table, c, *x);
     }
     due(c)
 }
@@ -66,10 +64,8 @@ pub fn check_digit_of_digits(s: &[u8]) -> u8
 {
     let table = NEXT_CARRY;
     let mut carry = 0;
-    let mut i = 0;
-    while i < s.len() {
-        carry = carry_after(&table, carry, s[i]);
-        i += 1;
+    for x in s {
+        carry = carry_after(&table, carry, *x);
     }
     due(carry)
 }

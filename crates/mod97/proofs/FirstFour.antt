@@ -33,9 +33,6 @@ pair_read (four a b x y t) = let first : onto 0 x ≡ value x = omega arith in r
 both : (f : ℕ → Bool) (x y : ℕ) → every f (x ∷ y ∷ []) ≡ true → (f x ≡ true) × (f y ≡ true)
 both f x y h = let (hx, hy) = (and-eq-true_iff (f x) _).0 h in (hx, ((and-eq-true_iff (f y) true).0 hy).0)
 
-pub pair_digits : {s : Bytes} → Four s → every digit (pair s) ≡ true → (digit (get_or s 2 0) ≡ true) × (digit (get_or s 3 0) ≡ true)
-pair_digits (four a b x y t) h = both digit x y h
-
 pub head_small : {s : Bytes} → Four s → numeral 0 (take 2 s) < 100 ^ 2
 unfolding numeral
 head_small (four a b x y t) = onto_small 1 (onto 0 a) b (onto_small 0 0 a (omega arith))

@@ -4,7 +4,7 @@ use native.Mathlib.Nat.{pow-le-pow_right}
 use native.Mathlib.Numerals.{add-one}
 use native.Mathlib.Omega.{arith}
 use mathlib.Core.Bool.{true, and-eq-true_iff}
-use mathlib.Core.Path.{◌≡◌, refl, sym, ◌∙◌}
+use mathlib.Core.Path.{◌≡◌, sym, ◌∙◌}
 use lib.ListN.{length, get_or, drop}
 use lib.Seq.{drop-cons}
 use Rattle.sieve.specs.Bytes.{Bytes, every}
@@ -19,9 +19,6 @@ pub record Reading (s : Bytes) (i n : ℕ) : Type 0 where
   pub small : n < 10 ^ i
   pub digits : every digit (drop i s) ≡ true
   pub whole : numeral 0 s ≡ numeral n (drop i s)
-
-pub none_read : (s : Bytes) → every digit s ≡ true → Reading s 0 0
-none_read s all = record { few = omega arith; small = omega arith; digits = all; whole = refl }
 
 module _ {s : Bytes} {i n : ℕ} (so_far : Reading s i n) where
   -- the digits so far leave room for one more

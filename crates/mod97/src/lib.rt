@@ -15,25 +15,18 @@ use crate::table::STEP;
 // From here on, 100 ^ 8, a number has no room for a character more.
 const LARGE: u64 = 10000000000000000;
 
-// One of 0-9.
-fn is_digit(x: u8) -> bool
-    ensures { result ≡ digit x }
-{
-    (48 <= x) & (x <= 57)
-}
-
 // What a character stands for: a digit for itself, a letter for 10 to 35 (a small letter as its capital), any other
 // byte for 0.
 fn value(x: u8) -> u64
     ensures { result ≡ value x }
 {
-    if is_digit(x) {
-        return (x - 48) as u64;
+    if x.is_ascii_digit() {
+        return (x - b'0') as u64;
     }
-    if (65 <= x) & (x <= 90) {
+    if x.is_ascii_uppercase() {
         return x as u64 - 55;
     }
-    if (97 <= x) & (x <= 122) {
+    if x.is_ascii_lowercase() {
         return x as u64 - 87;
     }
     0
@@ -45,7 +38,7 @@ fn extended(n: u64, x: u8) -> u64
     requires { n < 100 ^ 8 }
     ensures { result ≡ onto n x }
 {
-    if is_digit(x) {
+    if x.is_ascii_digit() {
         10 * n + value(x)
     } else {
         100 * n + value(x)
@@ -68,10 +61,8 @@ pub fn remainder_after(n: u64, s: &[u8]) -> u64
     ensures { result ≡ numeral n s.now % 97 }
 {
     let mut r = n % 97;
-    let mut i = 0;
-    while i < s.len() {
-        r = extended(reduced(r), s[i]);
-        i += 1;
+    for x in s {
+        r = extended(reduced(r), *x);
     }
     r % 97
 }
@@ -141,7 +132,7 @@ fn stepped(table: &[u8; 970], n: usize, x: u8) -> usize
     requires { (remainders 0 table.now ≡ true) × (n < 97) }
     ensures { result ≡ onto n x % 97 }
 {
-    if is_digit(x) {
+    if x.is_ascii_digit() {
         return one_place(table, n, wide_digit(x));
     }
     two_places(table, n, value(x) as usize)
@@ -153,10 +144,8 @@ fn run_by_two(table: &[u8; 970], n: usize, s: &[u8]) -> usize
     ensures { result ≡ numeral n s.now % 97 }
 {
     let mut r = n;
-    let mut i = 0;
-    while i < s.len() {
-        r = stepped(table, stepped(table, r, s[i]), s[i + 1]);
-        i += 2;
+    for i in 0..s.len() / 2 {
+        r = stepped(table, stepped(table, r, s[2 * i]), s[2 * i + 1]);
     }
     r
 }
@@ -226,10 +215,8 @@ pub fn decimal(s: &[u8]) -> u64
     ensures { result ≡ numeral 0 s.now }
 {
     let mut n: u64 = 0;
-    let mut i = 0;
-    while i < s.len() {
-        n = 10 * n + wide_digit(s[i]) as u64;
-        i += 1;
+    for x in s {
+        n = 10 * n + wide_digit(*x) as u64;
     }
     n
 }

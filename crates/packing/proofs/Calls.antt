@@ -8,14 +8,11 @@ use mathlib.Core.Path.{◌≡◌, refl, sym, ap, ◌∙◌}
 use lib.Dec.{leb, ltb}
 use lib.ListN.{length, get_or, take}
 use borrow.Author.Tests.{le-leb, le-ltb}
-use Rattle.sieve.specs.declared.Answer.{Answer}
-use Rattle.sieve.specs.declared.Answer.TheVariants.{Accepted, Refused}
+use Rattle.sieve.specs.Paper.{Answer, Written, Laying, not_laid, paper, paper_written}
+use Rattle.std.specs.Prelude.{Ok, Err}
 use Rattle.sieve.specs.declared.Break.{Break}
-use Rattle.sieve.specs.declared.Written.{Written}
-use Rattle.sieve.specs.declared.Written.TheVariants.{Length, Refused as NotWritten}
 use Rattle.sieve.specs.Bytes.{Bytes, within}
 use Rattle.sieve.specs.Lines.{bill_of}
-use Rattle.sieve.specs.Paper.{Laying, not_laid, paper, paper_written}
 use Rattle.sieve.specs.Places.{list_size}
 use Rattle.sieve.specs.Reading.{Done, IsRead}
 use Rattle.sieve.specs.Rules.{Layout}
@@ -83,23 +80,23 @@ module _ {L : Layout} (serves : Serves L) where
   reading_packs {q = q} h = by_cases q refl
     where
       by_cases : (r : Answer) → q ≡ r → Packs (paper r)
-      by_cases (Accepted n k) e = omega (arith, read_count serves h e, serves.few)
-      by_cases (Refused f) e = read_line serves h e
+      by_cases (Ok (n, k)) e = omega (arith, read_count serves h e, serves.few)
+      by_cases (Err f) e = read_line serves h e
 
   pub writing_packs : {text dest after : Bytes} {list : List ℕ} {count : ℕ} {k : Break} {w : Written} → IsWritten L text list count k dest w after → count < 1000 → PacksLaying (paper_written w)
   writing_packs {w = w} h low = by_cases w refl
     where
       by_cases : (r : Written) → w ≡ r → PacksLaying (paper_written r)
-      by_cases (Length n) e = omega (arith, write_length serves h e, serves.short)
-      by_cases (NotWritten f) e = write_line serves h low e
+      by_cases (Ok n) e = omega (arith, write_length serves h e, serves.short)
+      by_cases (Err f) e = write_line serves h low e
 
   -- of a line that the layout may have, the walk's list says where it lies
   pub line_packed : {p : Bytes} {q : Answer} {places : List ℕ} → IsJudged L p q places → (i : ℕ) → line_place L.most_lines places i (paper q) ≡ packed_line L p i (verdict L p)
   line_packed {p} {q} {places} h i = rw (← h.answer) (by_cases q refl)
     where
       by_cases : (r : Answer) → q ≡ r → line_place L.most_lines places i (paper r) ≡ packed_line L p i (paper r)
-      by_cases (Refused f) e = refl
-      by_cases (Accepted n k) e = listed (within 1 L.most_lines i) refl
+      by_cases (Err f) e = refl
+      by_cases (Ok (n, k)) e = listed (within 1 L.most_lines i) refl
         where
           listed : (b : Bool) → within 1 L.most_lines i ≡ b → cond b (listed_place places i) 0 ≡ cond b (listed_place (lines_lie L (bill_of p)) i) 0
           listed false w = refl

@@ -64,10 +64,7 @@ fn packed_count(lines: usize, brk: Break) -> u32
 pub fn told_count(count: u32) -> usize
     ensures { result ≡ told_count count }
 {
-    if MOST_TOLD < count {
-        return MOST_TOLD as usize;
-    }
-    count as usize
+    count.min(MOST_TOLD) as usize
 }
 
 // The kind of break that a flag asks for.
@@ -94,8 +91,8 @@ pub fn packed_answer(answer: Answer) -> u32
     ensures { result ≡ packed (paper answer) }
 {
     match answer {
-        Answer::Accepted(n, _) => n as u32,
-        Answer::Refused(fault) => packed_refusal(fault),
+        Ok((n, _)) => n as u32,
+        Err(fault) => packed_refusal(fault),
     }
 }
 
@@ -105,8 +102,8 @@ pub fn packed_verdict(answer: Answer) -> u32
     ensures { result ≡ packed_verdict (paper answer) }
 {
     match answer {
-        Answer::Accepted(n, brk) => packed_count(n, brk),
-        Answer::Refused(fault) => packed_refusal(fault),
+        Ok((n, brk)) => packed_count(n, brk),
+        Err(fault) => packed_refusal(fault),
     }
 }
 
@@ -116,8 +113,8 @@ pub fn packed_laying(written: Written) -> u32
     ensures { result ≡ packed_laying (paper_written written) }
 {
     match written {
-        Written::Length(n) => n as u32,
-        Written::Refused(fault) => packed_refusal(fault),
+        Ok(n) => n as u32,
+        Err(fault) => packed_refusal(fault),
     }
 }
 
@@ -127,8 +124,8 @@ pub fn packed_line(answer: Answer, places: &[u16], line: u32, most: usize) -> u3
     ensures { result ≡ line_place most places.now line (paper answer) }
 {
     match answer {
-        Answer::Refused(_) => 0,
-        Answer::Accepted(_, _) => {
+        Err(_) => 0,
+        Ok(_) => {
             let n = line as usize;
             if (1 <= n) & (n <= most) {
                 listed_place(places, n)

@@ -2,10 +2,10 @@
 use Prim.Native.Nat.{ℕ, ◌*◌, ◌≤◌, ◌<◌}
 use native.Mathlib.Omega.{arith}
 use mathlib.Core.List.{List, append_assoc}
-use mathlib.Core.Option.{get_or}
 use mathlib.Core.Path.{◌≡◌, refl, sym, ap, ◌∙◌}
 use lib.ListN.{length, take, drop}
 use lib.Seq.{take_at, drop_at, drop-append-le}
+use Rattle.sieve.specs.Options.{answered}
 use Rattle.sieve.specs.declared.Fault.{Fault}
 use Rattle.sieve.specs.Bytes.{Bytes, over}
 use Rattle.sieve.specs.Reading.{read_answer}
@@ -17,28 +17,27 @@ use Rattle.swiss.specs.declared.Edition.{Edition}
 use Rattle.swiss.specs.Swiss.{swiss_in}
 use Rattle.joining.specs.Handing.{line_at}
 use Rattle.joining.proofs.Handing.{outside_first, outside_none}
-use Rattle.pile.specs.declared.Piled.{Piled}
-use Rattle.pile.specs.declared.Piled.TheVariants.{Done, Refused}
-use Rattle.pile.specs.Pile.{bill_numbers, numbers_of, pile_numbers, paper_piled, IsPiled}
+use Rattle.std.specs.Prelude.{Ok, Err}
+use Rattle.pile.specs.Pile.{Piled, bill_numbers, numbers_of, pile_numbers, paper_piled, IsPiled}
 use Rattle.pile.proofs.Entries.{entry_length, entries_length, entry_next}
 use Rattle.pile.proofs.Stages.{all_placed, is_done}
 
 -- two answers that say the same in the paper's words are equal
 pub one_piled : (q r : Piled) → paper_piled q ≡ paper_piled r → q ≡ r
-one_piled Done Done e = refl
-one_piled Done (Refused g) e = let z : ◌≡◌ {A = ℕ} 0 1 = cc in absurd (omega arith)
-one_piled (Refused f) Done e = let z : ◌≡◌ {A = ℕ} 0 1 = cc in absurd (omega arith)
-one_piled (Refused f) (Refused g) e = ap Refused (one_fault f g cc)
+one_piled (Ok u) (Ok v) e = refl
+one_piled (Ok u) (Err g) e = let z : ◌≡◌ {A = ℕ} 0 1 = cc in absurd (omega arith)
+one_piled (Err f) (Ok u) e = let z : ◌≡◌ {A = ℕ} 0 1 = cc in absurd (omega arith)
+one_piled (Err f) (Err g) e = ap Err (one_fault f g cc)
 
 -- one answer, and one content of the list
 pub one_piling : {ed : Edition} {buffer : Bytes} {places : List ℕ} {count : ℕ} {answers : List ℕ} {q r : Piled} {a b : List ℕ} → IsPiled ed buffer places count answers q a → IsPiled ed buffer places count answers r b → (q ≡ r) × (a ≡ b)
 one_piling {q = q} {r = r} h k = (one_piled q r (h.answer ∙ sym k.answer), h.lent ∙ sym k.lent)
 
 -- a refusal of the pile changes no number
-pub refusal_changes_nothing : {ed : Edition} {buffer : Bytes} {places : List ℕ} {count : ℕ} {answers : List ℕ} {f : Fault} {after : List ℕ} → IsPiled ed buffer places count answers (Refused f) after → after ≡ answers
+pub refusal_changes_nothing : {ed : Edition} {buffer : Bytes} {places : List ℕ} {count : ℕ} {answers : List ℕ} {f : Fault} {after : List ℕ} → IsPiled ed buffer places count answers (Err f) after → after ≡ answers
 refusal_changes_nothing h = rw (← h.answer) at h.lent
 
-module _ {ed : Edition} {buffer : Bytes} {places : List ℕ} {count : ℕ} {answers after : List ℕ} (h : IsPiled ed buffer places count answers Done after) where
+module _ {ed : Edition} {buffer : Bytes} {places : List ℕ} {count : ℕ} {answers after : List ℕ} (h : IsPiled ed buffer places count answers (Ok tt) after) where
   -- a pile that is done leaves the entries in the front
   laid : after ≡ over answers (pile_numbers ed buffer places count)
   laid = rw (← h.answer) at h.lent
@@ -61,13 +60,13 @@ module _ {ed : Edition} {buffer : Bytes} {places : List ℕ} {count : ℕ} {answ
   as_the_reader i k list room = own_entry i k ∙ ap bill_numbers (sym (answer_is_verdict (swiss_in ed) (line_at buffer places i) list room))
 
 -- an entry hangs on its own bill alone: whatever else two piles differ in, the same bill has the same entry
-pub neighbours_stay : {ed : Edition} {b c : Bytes} {p q : List ℕ} {count : ℕ} {answers₁ answers₂ after₁ after₂ : List ℕ} → IsPiled ed b p count answers₁ Done after₁ → IsPiled ed c q count answers₂ Done after₂
+pub neighbours_stay : {ed : Edition} {b c : Bytes} {p q : List ℕ} {count : ℕ} {answers₁ answers₂ after₁ after₂ : List ℕ} → IsPiled ed b p count answers₁ (Ok tt) after₁ → IsPiled ed c q count answers₂ (Ok tt) after₂
     → (j : ℕ) → j < count → line_at b p j ≡ line_at c q j → take 2 (drop (2 * j) after₁) ≡ take 2 (drop (2 * j) after₂)
 neighbours_stay {ed = ed} h k j few same = own_entry h j few ∙ ap (λ (l : Bytes). bill_numbers (verdict (swiss_in ed) l)) same ∙ sym (own_entry k j few)
 
 -- a pile of no bills is done, and changes no number
-pub no_bills : (ed : Edition) (buffer : Bytes) (places answers : List ℕ) → IsPiled ed buffer places 0 answers Done answers
+pub no_bills : (ed : Edition) (buffer : Bytes) (places answers : List ℕ) → IsPiled ed buffer places 0 answers (Ok tt) answers
 unfolding numbers_of handed spans
 no_bills ed buffer places answers =
     let inside = outside_first buffer places 0 ∙ outside_none buffer places 0 0 (omega arith) in
-    is_done buffer places 0 answers ed (all_placed buffer places 0 (omega arith) (omega arith) refl (ap (λ o. get_or o 0) inside)) (omega arith) refl
+    is_done buffer places 0 answers ed (all_placed buffer places 0 (omega arith) (omega arith) (sym (ap answered inside))) (omega arith) refl

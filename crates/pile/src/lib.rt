@@ -4,10 +4,13 @@
 
 ghost use Rattle.std.specs.Prelude.{◌≡◌, ◌*◌, ◌≤◌, length};
 ghost use Rattle.sieve.specs.Bytes.{over};
+ghost use Rattle.sieve.specs.Options.{answered};
 ghost use Rattle.sieve.specs.Paper.{paper};
 ghost use Rattle.sieve.specs.Verdict.{first, verdict};
 ghost use Rattle.swiss.specs.Swiss.{swiss_in};
-ghost use Rattle.pile.specs.Pile.{outside_at, place_findings, paper_piled, bill_numbers, FitsEntry, handed_pile, Judgeable, IsPiledTo};
+ghost use Rattle.joining.specs.Handing.{Within};
+ghost use Rattle.pile.specs.Pile.{bill_at, bills_outside, bills_findings, bills_numbers, AreGathered};
+ghost use Rattle.pile.specs.Pile.{paper_piled, bill_numbers, FitsEntry, IsPiledTo};
 
 use sieve::{Answer, Fault, WALK_NUMBERS, line_of, number_of};
 use swiss::Edition;
@@ -15,45 +18,55 @@ use swiss_judge::judge_in;
 
 const MOST_BILLS: usize = 500;
 
-// What is answered of a pile: nothing is refused, or what is.
+// Bills that are handed over: the first `count` pairs of the list say where each lies in the buffer.
 #[derive(Clone, Copy)]
-pub enum Piled {
-    Done,
-    Refused(Fault),
+pub struct Bills<'a> {
+    pub buffer: &'a [u8],
+    pub places: &'a [u32],
+    pub count: usize,
 }
 
-// The position of the first bill whose place lies outside the buffer, counted from 1; 0 where none does.
-fn first_outside(buffer: &[u8], places: &[u32], count: usize) -> usize
-    requires { 2 * count ≤ length places.now }
-    ensures { result ≡ outside_at buffer.now places.now count }
-{
-    let mut i = 0;
-    while i < count {
-        let start = places[2 * i] as usize;
-        let bytes = places[2 * i + 1] as usize;
-        if buffer.len() < start + bytes {
-            return i + 1;
+impl<'a> Bills<'a> {
+    // The bill that pair i of the list, counted from 0, gives of the buffer.
+    pub fn bill(self, i: usize) -> &'a [u8]
+        requires { Within self.buffer.now self.places.now i }
+        ensures { result.now ≡ bill_at self.entry i }
+    {
+        let start = self.places[2 * i] as usize;
+        let end = start + self.places[2 * i + 1] as usize;
+        &self.buffer[start..end]
+    }
+
+    // The position of the first bill whose place lies outside the buffer, counted from 1.
+    fn first_outside(self) -> Option<usize>
+        requires { 2 * self.count ≤ length self.places.now }
+        ensures { result ≡ answered (bills_outside self.entry) }
+    {
+        for i in 0..self.count {
+            let start = self.places[2 * i] as usize;
+            let bytes = self.places[2 * i + 1] as usize;
+            if self.buffer.len() < start + bytes {
+                return Some(i + 1);
+            }
         }
-        i += 1;
+        None
     }
-    0
-}
 
-// Asks for the count of a pile and for its places: each bill lies in the buffer.
-pub fn gather_bills(buffer: &[u8], places: &[u32], count: usize) -> Piled
-    ensures { paper_piled result ≡ first (place_findings buffer.now places.now count) }
-{
-    if MOST_BILLS < count {
-        return Piled::Refused(Fault::LineCount(0));
+    // Asks for the count of a pile and for its places: each bill lies in the buffer.
+    pub fn gather_bills(self) -> Result<(), Fault>
+        ensures { paper_piled result ≡ first (bills_findings self.entry) }
+    {
+        if MOST_BILLS < self.count {
+            return Err(Fault::LineCount(0));
+        }
+        if self.places.len() < 2 * self.count {
+            return Err(Fault::LineCount(0));
+        }
+        match self.first_outside() {
+            Some(i) => Err(Fault::OutsideText(i)),
+            None => Ok(()),
+        }
     }
-    if places.len() < 2 * count {
-        return Piled::Refused(Fault::LineCount(0));
-    }
-    let outside = first_outside(buffer, places, count);
-    if outside != 0 {
-        return Piled::Refused(Fault::OutsideText(outside));
-    }
-    Piled::Done
 }
 
 // Puts a bill's answer into its own part of the list.
@@ -62,11 +75,11 @@ fn lay_entry(part: &mut [u16], answer: Answer)
     ensures { part.new ≡ bill_numbers (paper answer) }
 {
     match answer {
-        Answer::Accepted(n, _) => {
+        Ok((n, _)) => {
             part[0] = 0;
             part[1] = n as u16;
         }
-        Answer::Refused(f) => {
+        Err(f) => {
             part[0] = number_of(f) as u16;
             part[1] = line_of(f) as u16;
         }
@@ -83,42 +96,48 @@ fn judge_bill(bill: &[u8], edition: Edition, part: &mut [u16])
     lay_entry(part, answer);
 }
 
-// Judges bill after bill. One bill's answer says nothing about another's.
-fn judge_all(buffer: &[u8], places: &[u32], count: usize, edition: Edition, answers: &mut [u16])
-    requires { Judgeable buffer.now places.now count answers.old }
-    ensures { answers.new ≡ over answers.old (handed_pile edition buffer places count) }
-{
-    let mut i = 0;
-    while i < count {
-        let start = places[2 * i] as usize;
-        let end = start + places[2 * i + 1] as usize;
-        let at = 2 * i;
-        let next = at + 2;
-        judge_bill(&buffer[start..end], edition, &mut answers[at..next]);
-        i += 1;
+// Such bills once they are gathered: they are no more than a pile may have, and each lies in the buffer.
+#[derive(Clone, Copy)]
+pub struct Gathered<'a> {
+    pub bills: Bills<'a>,
+    pub ghost gathered: { AreGathered bills },
+}
+
+impl<'a> Gathered<'a> {
+    // Judges bill after bill. One bill's answer says nothing about another's.
+    fn judge_all(self, edition: Edition, answers: &mut [u16])
+        requires { 2 * self.bills.count ≤ length answers.old }
+        ensures { answers.new ≡ over answers.old (bills_numbers edition self.entry.bills) }
+    {
+        for i in 0..self.bills.count {
+            let at = 2 * i;
+            let next = at + 2;
+            judge_bill(self.bills.bill(i), edition, &mut answers[at..next]);
+        }
     }
 }
 
-// Judges under an edition the bills that the first `count` places give of the buffer, and puts an entry for each into the front of the
-// list: 0 and the line count of an accepted bill, or the refusal's number and line. A refusal of the pile changes no
-// number.
+// Judges under an edition the bills that the first `count` places give of the buffer, and puts an entry for each into
+// the front of the list: 0 and the line count of an accepted bill, or the refusal's number and line. A refusal of the
+// pile changes no number.
 pub fn pile(
     buffer: &[u8],
     places: &[u32],
     count: usize,
     edition: Edition,
     answers: &mut [u16],
-) -> Piled
+) -> Result<(), Fault>
     ensures { IsPiledTo edition buffer places count answers result }
 {
-    match gather_bills(buffer, places, count) {
-        Piled::Refused(fault) => Piled::Refused(fault),
-        Piled::Done => {
-            if answers.len() < 2 * count {
-                return Piled::Refused(Fault::NoRoom);
-            }
-            judge_all(buffer, places, count, edition, answers);
-            Piled::Done
-        }
+    let bills = Bills {
+        buffer,
+        places,
+        count,
+    };
+    bills.gather_bills()?;
+    if answers.len() < 2 * count {
+        return Err(Fault::NoRoom);
     }
+    Gathered { bills }.judge_all(edition, answers);
+    Ok(())
 }

@@ -1,7 +1,6 @@
 -- The list of places of any bytes that are cut into lines. Assumes nothing.
 use Rattle.std.specs.Prelude.{ℕ, ◌-◌, ◌*◌, cond, List, ◌++◌, ◌≡◌, ltb, leb, length, take, replicate}
 use Rattle.sieve.specs.Bytes.{Bytes}
-use Rattle.sieve.specs.Lines.{cut, lines_of}
 use Rattle.sieve.specs.Places.{entries, walk_lines, walk_numbers}
 use Rattle.lines.specs.LinesIn.{lines_in, lines_at}
 
@@ -24,8 +23,3 @@ Filled p l at n = take (2 * n) l ++ entries (walk_lines - n) (length p) (lines_a
 -- how many of so many lines are listed
 abbrev pub listed_of : ℕ → ℕ
 listed_of n = cond (ltb n walk_lines) n walk_lines
-
--- the places are those of a payload's lines, and the count is theirs
-pub record Counted (p : Bytes) (places : List ℕ) (count : ℕ) : Type 0 where
-  pub listed : places ≡ listed p
-  pub counted : count ≡ length (lines_of (cut p))

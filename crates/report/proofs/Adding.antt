@@ -1,36 +1,49 @@
 -- Texts laid one behind the other, and numbers of at most three digits. Assumes nothing.
-use Prim.Native.Nat.{ℕ, ◌+◌, ◌/◌, ◌%◌, ◌≤◌, ◌<◌}
+use Prim.Native.Nat.{ℕ, ◌+◌, ◌-◌, ◌/◌, ◌%◌, ◌≤◌, ◌<◌}
 use native.Mathlib.Omega.{arith}
 use mathlib.Core.Bool.{Bool, true, false}
 use mathlib.Core.List.{[], ◌∷◌, ◌++◌, append_assoc}
 use mathlib.Core.Option.{Option, some, none, get_or}
-use mathlib.Core.Path.{◌≡◌, refl}
-use lib.ListN.{length, take, length-append}
+use mathlib.Core.Path.{◌≡◌, refl, ◌∙◌}
+use lib.ListN.{length, take, drop, length-append}
 use lib.Seq.{length-take-le, take-append_seam}
 use lib.Dec.{ltb, lit≤}
 use borrow.Author.Tests.{lt-ltb, le-ltb, ltb-true, ltb-false}
+use borrow.Rule.Slice.PartMut.{mid_of, put_mid}
 use Rattle.sieve.specs.Bytes.{Bytes, ascii}
 use Rattle.sieve.specs.Decimal.{digit_byte, decimal_in}
+use Rattle.runs.specs.Laid.{fitting, over_fitting}
+use Rattle.runs.proofs.Lays.{tail_room, tail_laid}
+use Rattle.report.specs.declared.Line.{Line}
+use Rattle.report.specs.Laying.{said}
 use Rattle.report.specs.Spoken.{in_decimal, spoken_place}
 
 -- the front of a line, and a text behind it
-pub added_in_front : (n : ℕ) (d l rest : Bytes) → n ≤ length d → take (n + length l) (take n d ++ (l ++ rest)) ≡ take n d ++ l
+added_in_front : (n : ℕ) (d l rest : Bytes) → n ≤ length d → take (n + length l) (take n d ++ (l ++ rest)) ≡ take n d ++ l
 added_in_front n d l rest h =
     let e : length (take n d ++ l) ≡ n + length l = omega (arith, length-append (take n d) l, length-take-le n d h) in
     rw (← append_assoc (take n d) l rest, ← e) (take-append_seam (take n d ++ l) rest)
 
--- the first `at` bytes of a line are this text
-pub record Said (t line : Bytes) (at : ℕ) : Type 0 where
-  pub size : at ≡ length t
-  pub text : take at line ≡ t
+-- in a line of so many bytes, a text that fits in the tail behind the first n is laid there whole
+module _ (n : ℕ) (d l : Bytes) {room : ℕ} (size : length d ≡ room) (fits : n + length l ≤ room) where
+  pub laid_whole : {r : ℕ} → r ≡ fitting (mid_of n (room - n) d) l → r ≡ length l
+  laid_whole e = e ∙ rw (← size) (tail_room n d l (omega arith))
 
--- what is laid in the front is said first
-pub begun : {line : Bytes} {r : ℕ} (u : Bytes) → (r ≡ 0 + length u) × (take r line ≡ u) → Said u line r
-begun u (r, e) = record { size = omega (arith, r); text = e }
+  pub laid_behind : {t : Bytes} → t ≡ over_fitting (mid_of n (room - n) d) l → take (n + length l) (put_mid n (room - n) d t) ≡ take n d ++ l
+  laid_behind e = rw (e, ← size, tail_laid n d l (omega arith)) (added_in_front n d l (drop (n + length l) d) (omega arith))
 
--- what is laid behind them is said after it
-pub more : {t line line' : Bytes} {at r : ℕ} (u : Bytes) → Said t line at → (r ≡ at + length u) × (take r line' ≡ take at line ++ u) → Said (t ++ u) line' r
-more {t} u s (r, e) = record { size = omega (arith, s.size, length-append t u); text = rw (← s.text) e }
+-- a line says this text
+pub record Says (t : Bytes) (line : Line) : Type 0 where
+  pub size : line.at ≡ length t
+  pub text : said line ≡ t
+
+-- one with nothing on it says nothing
+pub says_nothing : {line : Line} → line.at ≡ 0 → Says [] line
+says_nothing e = record { size = e; text = rw e refl }
+
+-- what is laid behind it is said after it
+pub more : {t : Bytes} {line after : Line} (u : Bytes) → Says t line → (after.at ≡ line.at + length u) × (said after ≡ said line ++ u) → Says (t ++ u) after
+more {t} u s (r, e) = record { size = omega (arith, r, s.size, length-append t u); text = rw (← s.text) e }
 
 module _ (n : ℕ) where
   pub one_digit : n < 10 → in_decimal n ≡ digit_byte (n % 10) ∷ []

@@ -2,7 +2,7 @@
 
 #![tactic(auto)]
 
-ghost use Rattle.std.specs.Prelude.{◌++◌, ◌≡◌, ◌+◌, ◌≤◌, ◌<◌, length, take};
+ghost use Rattle.std.specs.Prelude.{◌++◌, ◌≡◌, ◌+◌, ◌≤◌, ◌<◌, length};
 ghost use Rattle.std.proofs.Math.Option.{get_or};
 ghost use Rattle.sieve.specs.Paper.{paper, paper_fault};
 ghost use Rattle.sieve.specs.Verdict.{accepted, refused};
@@ -11,18 +11,10 @@ ghost use Rattle.swiss.specs.Swiss.{swiss};
 ghost use Rattle.girocode.specs.Girocode.{girocode};
 ghost use Rattle.runs.specs.Laid.{fitting, over_fitting};
 ghost use Rattle.report.specs.Spoken.{in_decimal, spoken_fault, spoken, spoken_in, ThreeDigits};
+ghost use Rattle.report.specs.Laying.{said};
 
 use runs::lay;
-use sieve::{Answer, Break, Fault, line_of, number_of};
-
-// Lays a text behind the first `at` bytes of a line, and answers where it ends.
-fn add(line: &mut [u8], at: usize, text: &[u8]) -> usize
-    requires { at + length text.now ≤ length line.old }
-    ensures value { result ≡ at + length text.now }
-    ensures line_after { take result line.new ≡ take at line.old ++ text.now }
-{
-    at + lay(&mut line[at..], text)
-}
+use sieve::{Answer, Break, Fault, line_of, number_of, place_of};
 
 fn digit(n: usize) -> u8
     requires { n < 10 }
@@ -31,79 +23,108 @@ fn digit(n: usize) -> u8
     48 + n as u8
 }
 
-// Lays a number in decimal digits behind the first `at` bytes of a line, and answers where it ends.
-fn add_number(line: &mut [u8], at: usize, n: usize) -> usize
-    requires { (n < 1000) × (at + 3 ≤ length line.old) }
-    ensures value { result ≡ at + length (in_decimal n) }
-    ensures line_after { take result line.new ≡ take at line.old ++ in_decimal n }
-{
-    let last = digit(n % 10);
-    if n < 10 {
-        return add(line, at, &[last]);
+// A line while it is laid: the room for it, and how far it is laid.
+#[derive(Drop)]
+struct Line {
+    bytes: [u8; 32],
+    at: usize,
+}
+
+impl Line {
+    // A line with nothing on it.
+    fn blank() -> Line
+        ensures { result.at ≡ 0 }
+    {
+        Line {
+            bytes: [0; 32],
+            at: 0,
+        }
     }
-    let tens = n / 10;
-    let middle = digit(tens % 10);
-    if tens < 10 {
-        return add(line, at, &[middle, last]);
+
+    // Lays a text behind what is laid.
+    fn add(&mut self, text: &[u8])
+        requires { self.old.at + length text.now ≤ 32 }
+        ensures at_after { self.new.at ≡ self.old.at + length text.now }
+        ensures line_after { said self.new ≡ said self.old ++ text.now }
+    {
+        self.at += lay(&mut self.bytes[self.at..], text);
     }
-    add(line, at, &[digit(tens / 10), middle, last])
-}
 
-// Lays a number with its name before it, as " line 4", and answers where it ends.
-fn add_named(line: &mut [u8], at: usize, name: &[u8], n: usize) -> usize
-    requires { (n < 1000) × (at + length name.now + 3 ≤ length line.old) }
-    ensures value { result ≡ at + length (name.now ++ in_decimal n) }
-    ensures line_after { take result line.new ≡ take at line.old ++ (name.now ++ in_decimal n) }
-{
-    let behind = add(line, at, name);
-    add_number(line, behind, n)
-}
-
-fn compose_accepted(line: &mut [u8], n: usize, k: Break) -> usize
-    requires { (n < 1000) × (length line.old ≡ 32) }
-    ensures upper_bound { result ≤ 32 }
-    ensures line_after { take result line.new ≡ spoken (accepted n k) }
-{
-    let b = add_named(line, 0, b"accepted ", n);
-    match k {
-        Break::Lf => add(line, b, b" lines LF\n"),
-        Break::CrLf => add(line, b, b" lines CRLF\n"),
+    // Lays a number in decimal digits.
+    fn add_number(&mut self, n: usize)
+        requires { (n < 1000) × (self.old.at + 3 ≤ 32) }
+        ensures at_after { self.new.at ≡ self.old.at + length (in_decimal n) }
+        ensures line_after { said self.new ≡ said self.old ++ in_decimal n }
+    {
+        let last = digit(n % 10);
+        if n < 10 {
+            self.add(&[last]);
+            return;
+        }
+        let tens = n / 10;
+        let middle = digit(tens % 10);
+        if tens < 10 {
+            self.add(&[middle, last]);
+            return;
+        }
+        self.add(&[digit(tens / 10), middle, last]);
     }
-}
 
-// Lays the place of the byte that a fault points at behind the first `at` bytes of a line, or nothing where it points at
-// none, and answers where it ends.
-fn add_place(line: &mut [u8], at: usize, fault: Fault) -> usize
-    requires { (get_or (paper_fault fault).place 0 < 1000) × (at + 9 ≤ length line.old) }
-    ensures upper_bound { result ≤ at + 9 }
-    ensures value { result ≡ at + length (spoken_fault fault) }
-    ensures line_after { take result line.new ≡ take at line.old ++ spoken_fault fault }
-{
-    match fault {
-        Fault::BadCharacter(_, place) => add_named(line, at, b" byte ", place),
-        _ => at,
+    // Lays a number with its name before it, as " line 4".
+    fn add_named(&mut self, name: &[u8], n: usize)
+        requires { (n < 1000) × (self.old.at + length name.now + 3 ≤ 32) }
+        ensures at_after { self.new.at ≡ self.old.at + length (name.now ++ in_decimal n) }
+        ensures line_after { said self.new ≡ said self.old ++ (name.now ++ in_decimal n) }
+    {
+        self.add(name);
+        self.add_number(n);
     }
-}
 
-fn compose_refused(line: &mut [u8], fault: Fault) -> usize
-    requires { ThreeDigits (refused (paper_fault fault)) × (length line.old ≡ 32) }
-    ensures upper_bound { result ≤ 32 }
-    ensures line_after { take result line.new ≡ spoken (refused (paper_fault fault)) }
-{
-    let b = add_named(line, 0, b"refused ", number_of(fault) as usize);
-    let d = add_named(line, b, b" line ", line_of(fault));
-    let e = add_place(line, d, fault);
-    add(line, e, b"\n")
-}
+    // Lays the place of the byte that a fault points at, or nothing where it points at none.
+    fn add_place(&mut self, fault: Fault)
+        requires { (get_or (paper_fault fault).place 0 < 1000) × (self.old.at + 9 ≤ 32) }
+        ensures upper_bound { self.new.at ≤ self.old.at + 9 }
+        ensures at_after { self.new.at ≡ self.old.at + length (spoken_fault fault) }
+        ensures line_after { said self.new ≡ said self.old ++ spoken_fault fault }
+    {
+        match place_of(fault) {
+            Some(place) => self.add_named(b" byte ", place),
+            None => {}
+        }
+    }
 
-fn compose(line: &mut [u8], answer: Answer) -> usize
-    requires { ThreeDigits (paper answer) × (length line.old ≡ 32) }
-    ensures upper_bound { result ≤ 32 }
-    ensures line_after { take result line.new ≡ spoken (paper answer) }
-{
-    match answer {
-        Answer::Accepted(n, k) => compose_accepted(line, n, k),
-        Answer::Refused(fault) => compose_refused(line, fault),
+    fn compose_accepted(&mut self, n: usize, k: Break)
+        requires { (n < 1000) × (self.old.at ≡ 0) }
+        ensures upper_bound { self.new.at ≤ 32 }
+        ensures line_after { said self.new ≡ spoken (accepted n k) }
+    {
+        self.add_named(b"accepted ", n);
+        match k {
+            Break::Lf => self.add(b" lines LF\n"),
+            Break::CrLf => self.add(b" lines CRLF\n"),
+        }
+    }
+
+    fn compose_refused(&mut self, fault: Fault)
+        requires { ThreeDigits (refused (paper_fault fault)) × (self.old.at ≡ 0) }
+        ensures upper_bound { self.new.at ≤ 32 }
+        ensures line_after { said self.new ≡ spoken (refused (paper_fault fault)) }
+    {
+        self.add_named(b"refused ", number_of(fault) as usize);
+        self.add_named(b" line ", line_of(fault));
+        self.add_place(fault);
+        self.add(b"\n");
+    }
+
+    fn compose(&mut self, answer: Answer)
+        requires { ThreeDigits (paper answer) × (self.old.at ≡ 0) }
+        ensures upper_bound { self.new.at ≤ 32 }
+        ensures line_after { said self.new ≡ spoken (paper answer) }
+    {
+        match answer {
+            Ok((n, k)) => self.compose_accepted(n, k),
+            Err(fault) => self.compose_refused(fault),
+        }
     }
 }
 
@@ -115,9 +136,9 @@ fn lay_answer(answer: Answer, dest: &mut [u8]) -> usize
     ensures dest_after { dest.new ≡ over_fitting dest.old (spoken (paper answer)) }
     ensures upper_bound { result ≤ length dest.new }
 {
-    let mut line = [0u8; 32];
-    let n = compose(&mut line, answer);
-    lay(dest, &line[0..n])
+    let mut line = Line::blank();
+    line.compose(answer);
+    lay(dest, &line.bytes[0..line.at])
 }
 
 // Lays the line of a payload that is read as a Swiss bill, as `lay_answer` does.

@@ -1,13 +1,11 @@
 -- How many characters some bytes count for. Assumes nothing.
 use Prim.Native.Nat.{ℕ, zero, suc, ◌+◌, ◌≤◌, ◌<◌}
 use native.Mathlib.Omega.{arith}
-use mathlib.Core.Bool.{Bool, true, false, cond, ◌||◌, and-false}
+use mathlib.Core.Bool.{Bool, true, false, cond, and-false}
 use mathlib.Core.List.{[], ◌∷◌}
-use mathlib.Core.Path.{◌≡◌, refl}
-use lib.Dec.{ltb}
-use lib.ListN.{length, get_or, take, drop, length-take}
-use lib.Seq.{drop-drop}
-use borrow.Author.Tests.{ltb-true, ltb-false, le-leb, lt-leb}
+use mathlib.Core.Path.{◌≡◌}
+use lib.ListN.{length, get_or, take, drop, drop_of_length-le}
+use borrow.Author.Tests.{le-leb, lt-leb}
 use Rattle.sieve.specs.Bytes.{Bytes, within}
 use Rattle.sieve.specs.Characters.{characters}
 use Rattle.sieve.proofs.Bounds.{case_at_most}
@@ -26,35 +24,21 @@ characters_parted zero s = omega arith
 characters_parted (suc k) [] = omega arith
 characters_parted (suc k) (x ∷ s) = omega (arith, characters_parted k s)
 
--- a byte begins a character unless it is one of 80 to BF
-begins : (x : ℕ) (b : Bool) → (ltb x 0x80 || ltb 0xBF x) ≡ b → ◌≡◌ {A = ℕ} (cond (within 0x80 0xBF x) 0 1) (cond b 1 0)
-begins x b h = rw (← h) (by_cases (ltb x 0x80) (ltb 0xBF x) refl refl)
-  where
-    by_cases : (low high : Bool) → ltb x 0x80 ≡ low → ltb 0xBF x ≡ high → ◌≡◌ {A = ℕ} (cond (within 0x80 0xBF x) 0 1) (cond (low || high) 1 0)
-    by_cases true high e f = rw (lt-leb 0x80 x (ltb-true x 0x80 e))
-    by_cases false true e f = rw (lt-leb x 0xBF (ltb-true 0xBF x f), and-false)
-    by_cases false false e f = rw (le-leb 0x80 x (ltb-false x 0x80 e), le-leb x 0xBF (ltb-false 0xBF x f))
-
--- while characters are counted: n in the first i bytes, and those of the bytes that are left are the others
-pub record Counting (s : Bytes) (i n : ℕ) : Type 0 where
-  pub few : n ≤ i
-  pub here : i ≤ length s
-  pub all : characters s ≡ n + characters (drop i s)
-
-pub none_counted : (s : Bytes) → Counting s 0 0
-none_counted s = record { few = omega arith; here = omega arith; all = omega arith }
-
-module _ {s : Bytes} {i n : ℕ} (so_far : Counting s i n) where
-  -- k bytes more
-  pub part_counted : (k r : ℕ) → i + k ≤ length s → r ≡ characters (take k (drop i s)) → Counting s (i + k) (n + r)
-  part_counted k r h e =
-      record {
-        few = omega (arith, characters_few (take k (drop i s)), length-take k (drop i s), so_far.few);
-        here = h;
-        all = omega (arith, so_far.all, rw (drop-drop k i s) at (characters_parted k (drop i s)));
-      }
-
-  -- one byte more
-  pub byte_counted : (b : Bool) → i < length s → (ltb (get_or s i 0) 0x80 || ltb 0xBF (get_or s i 0)) ≡ b → Counting s (i + 1) (n + cond b 1 0)
+-- a byte of 80 to BF begins no character, and any other byte begins one
+module _ (s : Bytes) (i : ℕ) (here : i < length s) where
+  byte_by_byte : (b : Bool) → within 0x80 0xBF (get_or s i 0) ≡ b → characters (drop i s) ≡ cond b 0 1 + characters (drop (i + 1) s)
   unfolding characters
-  byte_counted b h e = part_counted 1 (cond b 1 0) (omega arith) (rw (next s i h) (omega (arith, begins (get_or s i 0) b e)))
+  byte_by_byte b e = rw (next s i here, e)
+
+  pub going_on : 0x80 ≤ get_or s i 0 → get_or s i 0 ≤ 0xBF → characters (drop i s) ≡ characters (drop (i + 1) s)
+  going_on low high = omega (arith, byte_by_byte true (rw (le-leb _ _ low, le-leb _ _ high)))
+
+  pub low_begins : get_or s i 0 < 0x80 → characters (drop i s) ≡ 1 + characters (drop (i + 1) s)
+  low_begins low = byte_by_byte false (rw (lt-leb _ _ low))
+
+  pub high_begins : 0xBF < get_or s i 0 → characters (drop i s) ≡ 1 + characters (drop (i + 1) s)
+  high_begins high = byte_by_byte false (rw (lt-leb _ _ high, and-false))
+
+pub none_begins : (s : Bytes) (i : ℕ) → length s ≤ i → characters (drop i s) ≡ 0
+unfolding characters
+none_begins s i h = rw (drop_of_length-le s h)

@@ -1,10 +1,10 @@
 -- Laying bytes in the front of a destination, and in the tail that is lent of one. Assumes nothing.
 use Prim.Native.Nat.{ℕ, zero, suc, ◌+◌, ◌-◌, ◌≤◌, ◌<◌}
-use native.Mathlib.Nat.{le_antisymm, le_of_suc-le-suc}
+use native.Mathlib.Nat.{le_of_suc-le-suc}
 use native.Mathlib.Numerals.{add-one}
 use native.Mathlib.Omega.{arith}
 use mathlib.Core.Bool.{Bool, true, false, cond}
-use mathlib.Core.List.{[], ◌∷◌, ◌++◌, append-nil}
+use mathlib.Core.List.{List, [], ◌∷◌, ◌++◌, append-nil}
 use mathlib.Core.Path.{◌≡◌, refl, ap, ◌∙◌}
 use lib.Dec.{leb}
 use lib.ListN.{length, take, drop, get_or, set, length-set, length-drop, drop_of_length-le}
@@ -28,14 +28,11 @@ pub record Laying (d₀ l : Bytes) (i : ℕ) (d : Bytes) : Type 0 where
   pub is : d ≡ take i l ++ drop i d₀
   pub size : length d ≡ length d₀
 
-pub none_laid : (d l : Bytes) → Laying d l 0 d
-none_laid d l = record { few = omega arith; is = refl; size = refl }
-
 pub one_laid : {d₀ l d : Bytes} {i : ℕ} → Laying d₀ l i d → i < length l → length l ≤ length d₀ → Laying d₀ l (i + 1) (set d i (get_or l i 0))
 one_laid {d₀} {l} {d} {i} h more fits =
     record { few = omega arith; is = rw (h.is, add-one) (store d₀ l i more (omega arith)); size = simp length-set h.size }
 
-module _ (d l : Bytes) where
+module _ {A : Type 0} (d l : List A) where
   -- where they do not fit, none are laid
   pub no_room : length d < length l → (0 ≡ fitting d l) × (d ≡ over_fitting d l)
   unfolding fitting over_fitting
@@ -50,15 +47,12 @@ module _ (d l : Bytes) where
   unfolding over_fitting
   laid_in_lem h = rw (le-leb _ _ h)
 
-  pub copied : length l ≤ length d → {i : ℕ} {e : Bytes} → i ≡ length l → e ≡ take i l ++ drop i d → (i ≡ fitting d l) × (e ≡ over_fitting d l)
+  pub copied : length l ≤ length d → {i : ℕ} {e : List A} → i ≡ length l → e ≡ take i l ++ drop i d → (i ≡ fitting d l) × (e ≡ over_fitting d l)
   copied h q is = (rw (room_for h) q, is ∙ rw (laid_in_lem h, q, take-length))
 
   -- so where the library's copy has written to the front
-  pub written : length l ≤ length d → {e : Bytes} → e ≡ l → (length l ≡ fitting d l) × (e ++ drop (length l - 0) d ≡ over_fitting d l)
-  written h f = copied h refl (let whole : length l - 0 ≡ length l = omega arith in rw (f, whole, take-length))
-
-  pub all_laid : length l ≤ length d → {i : ℕ} {e : Bytes} → length l ≤ i → Laying d l i e → (i ≡ fitting d l) × (e ≡ over_fitting d l)
-  all_laid h k m = copied h (le_antisymm m.few k) m.is
+  pub written : length l ≤ length d → {e : List A} → e ≡ l → (length l ≡ fitting d l) × (e ++ drop (length l) d ≡ over_fitting d l)
+  written h f = copied h refl (rw (f, take-length))
 
   -- what is laid is within the destination
   pub room_fits : fitting d l ≤ length d

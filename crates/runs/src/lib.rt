@@ -14,12 +14,10 @@ fn begun(s: &[u8]) -> u8
     ensures { result ≡ characters s.now }
 {
     let mut n: u8 = 0;
-    let mut i = 0;
-    while i < s.len() {
-        if (s[i] < 0x80) | (0xBF < s[i]) {
+    for x in s {
+        if !matches!(*x, 0x80..=0xBF) {
             n += 1;
         }
-        i += 1;
     }
     n
 }
@@ -29,13 +27,12 @@ pub fn characters(s: &[u8]) -> usize
     ensures { result ≡ characters s.now }
 {
     let mut n = 0;
-    let mut at = 0;
-    while 255 < s.len() - at {
-        let to = at + 255;
-        n += begun(&s[at..to]) as usize;
-        at = to;
+    let mut rest = s;
+    while let Some((part, after)) = rest.split_at_checked(255) {
+        n += begun(part) as usize;
+        rest = after;
     }
-    n + begun(&s[at..]) as usize
+    n + begun(rest) as usize
 }
 
 // Whether a line has more than so many characters. It has no more characters than bytes, so they are counted only where
@@ -63,17 +60,7 @@ pub fn longer_together(a: &[u8], b: &[u8], most: usize) -> bool
 pub fn same(a: &[u8], b: &[u8]) -> bool
     ensures { result ≡ same a.now b.now }
 {
-    if a.len() != b.len() {
-        return false;
-    }
-    let mut i = 0;
-    while i < a.len() {
-        if a[i] != b[i] {
-            return false;
-        }
-        i += 1;
-    }
-    true
+    a == b
 }
 
 // A kind of byte.
@@ -92,16 +79,15 @@ pub enum Kind {
 pub fn of_kind(kind: Kind, x: u8) -> bool
     ensures { result ≡ of_kind kind x }
 {
-    let digit = (48 <= x) & (x <= 57);
-    let capital = (65 <= x) & (x <= 90);
-    let small = (97 <= x) & (x <= 122);
+    let digit = x.is_ascii_digit();
+    let capital = x.is_ascii_uppercase();
     match kind {
         Kind::Digit => digit,
         Kind::Capital => capital,
         Kind::DigitOrCapital => digit | capital,
-        Kind::Alphanumeric => digit | capital | small,
-        Kind::Zero => x == 48,
-        Kind::Plain => (0x20 <= x) & (x <= 0x7E),
+        Kind::Alphanumeric => x.is_ascii_alphanumeric(),
+        Kind::Zero => x == b'0',
+        Kind::Plain => matches!(x, b' '..=b'~'),
     }
 }
 
@@ -111,39 +97,21 @@ pub fn every(kind: Kind, s: &[u8]) -> bool
     ensures { result ≡ every (of_kind kind) s.now }
 {
     let mut all = true;
-    let mut i = 0;
-    while i < s.len() {
-        all = all & of_kind(kind, s[i]);
-        i += 1;
+    for x in s {
+        all = all & of_kind(kind, *x);
     }
     all
 }
 
-// Copies bytes to the front of `dest`, and answers how many; none where they do not fit, and `dest` stays as it is.
-pub fn lay(dest: &mut [u8], bytes: &[u8]) -> usize
-    ensures value { result ≡ fitting dest.old bytes.now }
-    ensures dest_after { dest.new ≡ over_fitting dest.old bytes.now }
+// Copies items to the front of `dest`, and answers how many; none where they do not fit, and `dest` stays as it is.
+pub fn lay<T: Copy>(dest: &mut [T], items: &[T]) -> usize
+    ensures value { result ≡ fitting dest.old items.now }
+    ensures dest_after { dest.new ≡ over_fitting dest.old items.now }
 {
-    if dest.len() < bytes.len() {
+    if dest.len() < items.len() {
         return 0;
     }
-    let n = bytes.len();
-    dest[0..n].copy_from_slice(bytes);
+    let n = items.len();
+    dest[..n].copy_from_slice(items);
     n
-}
-
-// Copies numbers to the front of a list, and answers how many; none where they do not fit, and the list stays as it is.
-pub fn fill(list: &mut [u16], numbers: &[u16]) -> usize
-    ensures value { result ≡ fitting list.old numbers.now }
-    ensures list_after { list.new ≡ over_fitting list.old numbers.now }
-{
-    if list.len() < numbers.len() {
-        return 0;
-    }
-    let mut i = 0;
-    while i < numbers.len() {
-        list[i] = numbers[i];
-        i += 1;
-    }
-    i
 }

@@ -8,8 +8,8 @@ use mathlib.Core.Path.{◌≡◌, refl}
 use lib.Dec.{ltb}
 use lib.ListN.{length, take, drop}
 use borrow.Author.Tests.{ltb-true, ltb-false, lt-ltb, le-ltb}
-use Rattle.sieve.specs.declared.Answer.{Answer}
-use Rattle.sieve.specs.declared.Answer.TheVariants.{Refused}
+use Rattle.sieve.specs.Paper.{Answer}
+use Rattle.std.specs.Prelude.{Err}
 use Rattle.sieve.specs.declared.Fault.TheVariants.{TooManyBytes}
 use Rattle.sieve.specs.Bytes.{Bytes}
 use Rattle.sieve.specs.Reading.{IsRead}
@@ -37,7 +37,7 @@ module _ (t : Scan) (b : Bytes) where
   handed_in h = rw (le-ltb (most_in t.bytes) (t.len + length b) h)
 
 module _ (ed : Edition) (t : Scan) (list : List ℕ) where
-  pub over_closed : most_bytes < t.len → IsClosed ed t list (Refused TooManyBytes) list
+  pub over_closed : most_bytes < t.len → IsClosed ed t list (Err TooManyBytes) list
   unfolding close_answer
   over_closed h = let e = lt-ltb _ _ h in record { answer = rw e; lent = rw e }
 

@@ -6,7 +6,7 @@ use mathlib.Core.List.{List, [], ◌++◌, flatten}
 use mathlib.Core.Logic.{⊎_elim}
 use mathlib.Core.Path.{◌≡◌, sym, ap, ◌∙◌}
 use lib.ListN.{length, take, drop, replicate, take-append-drop, length-append, length-replicate}
-use Rattle.sieve.specs.declared.Answer.{Answer}
+use Rattle.sieve.specs.Paper.{Answer}
 use Rattle.sieve.specs.Bytes.{Bytes}
 use Rattle.sieve.specs.Reading.{read_answer, IsRead}
 use Rattle.sieve.specs.Verdict.{under, refused, verdict}

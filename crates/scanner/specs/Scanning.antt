@@ -1,8 +1,7 @@
 -- A payload that comes in bits: what is held of it, and what is answered at the close. Assumes nothing.
 use Rattle.std.specs.Prelude.{ℕ, ◌+◌, min, cond, List, [], ◌∷◌, ◌++◌, ◌≡◌, ltb, length, take, drop, replicate}
-use Rattle.sieve.specs.declared.Answer.{Answer}
+use Rattle.sieve.specs.Paper.{Answer, paper}
 use Rattle.sieve.specs.Bytes.{Bytes}
-use Rattle.sieve.specs.Paper.{paper}
 use Rattle.sieve.specs.Reading.{Done, read_answer}
 use Rattle.sieve.specs.Verdict.{under, Verdict, refused}
 use Rattle.swiss.specs.Limits.{most_bytes}

@@ -57,10 +57,7 @@ impl Scan {
     {
         let mut bytes = self.bytes;
         let len = hand_over(&mut bytes, self.len, bit);
-        Scan {
-            bytes: bytes,
-            len: len,
-        }
+        Scan { bytes, len }
     }
 
     // What the reader answers under an edition on all that arrived, with the places of its lines in the list.
@@ -69,7 +66,7 @@ impl Scan {
     {
         let n = self.len;
         if Edition::MOST_BYTES < n {
-            return Answer::Refused(Fault::TooManyBytes);
+            return Err(Fault::TooManyBytes);
         }
         let bytes = self.bytes;
         read(&bytes[0..n], edition, list)

@@ -1,4 +1,6 @@
 -- What a user of a season may rely on, stated on its contract. Assumes nothing.
+use Rattle.std.specs.Prelude.{Result, Ok, Err}
+use Rattle.season.specs.declared.Tried.{Tried}
 use Prim.Native.Nat.{ℕ, zero, suc, ◌+◌, ◌*◌, ◌≤◌, ◌<◌}
 use Prim.Native.String.{String}
 use native.Mathlib.Nat.{add-zero}
@@ -36,8 +38,6 @@ use Rattle.joining.proofs.Handing.{still, from_start, next_line}
 use Rattle.pile.specs.Pile.{most_bills, place_findings, filled_by}
 use Rattle.pile.proofs.Positions.{low_room, low_found}
 use Rattle.pile.proofs.Stages.{placed, few_bills}
-use Rattle.season.specs.declared.Tried.{Tried}
-use Rattle.season.specs.declared.Tried.TheVariants.{Listed, Refused}
 use Rattle.season.specs.Season.{positions, total, editions_differ, cents_in, adds, read_apart, read_cents, differing, sum, season_findings, tried, paper_tried, trial_of, IsTried}
 use Rattle.season.proofs.OverBills.{climbs, positions_climb, position_there, position_of_bill, positions_behind, positions_alike, total_most, total_apart, total_alike}
 use Rattle.season.proofs.Accepting.{accepted_alike}
@@ -45,29 +45,33 @@ use Rattle.season.proofs.Trying.{listed_few}
 use Rattle.season.proofs.Paying.{most_cents, adds_its, nothing_added, adds_most}
 
 -- two answers that say the same in the paper's words are equal
-one_tried : (q r : Tried) → paper_tried q ≡ paper_tried r → q ≡ r
-one_tried (Listed n c e) (Listed m d f) h = let x : n ≡ m = cc in let y : c ≡ d = cc in let z : e ≡ f = cc in rw (x, y, z)
-one_tried (Listed n c e) (Refused g) h = let z : ◌≡◌ {A = ℕ} 0 1 = cc in absurd (omega arith)
-one_tried (Refused f) (Listed m d e) h = let z : ◌≡◌ {A = ℕ} 0 1 = cc in absurd (omega arith)
-one_tried (Refused f) (Refused g) h = ap Refused (one_fault f g cc)
+one_tried : (q r : Result Tried Fault) → paper_tried q ≡ paper_tried r → q ≡ r
+one_tried (Ok t) (Ok u) h =
+    let x : t.listed ≡ u.listed = cc in
+    let y : t.francs ≡ u.francs = cc in
+    let z : t.euros ≡ u.euros = cc in
+    ap Ok (λ i. record { listed = x i; francs = y i; euros = z i })
+one_tried (Ok t) (Err g) h = let z : ◌≡◌ {A = ℕ} 0 1 = cc in absurd (omega arith)
+one_tried (Err f) (Ok u) h = let z : ◌≡◌ {A = ℕ} 0 1 = cc in absurd (omega arith)
+one_tried (Err f) (Err g) h = ap Err (one_fault f g cc)
 
 -- one answer, and one content of the list
-pub one_trying : {buffer : Bytes} {places : List ℕ} {count : ℕ} {list : List ℕ} {q r : Tried} {a b : List ℕ} → IsTried buffer places count list q a → IsTried buffer places count list r b → (q ≡ r) × (a ≡ b)
+pub one_trying : {buffer : Bytes} {places : List ℕ} {count : ℕ} {list : List ℕ} {q r : Result Tried Fault} {a b : List ℕ} → IsTried buffer places count list q a → IsTried buffer places count list r b → (q ≡ r) × (a ≡ b)
 one_trying {q = q} {r = r} h k = (one_tried q r (h.answer ∙ sym k.answer), h.lent ∙ sym k.lent)
 
 -- what a refusal tells was found; its position is that of a bill; and it changes no number
 
-pub refused_found : {buffer : Bytes} {places : List ℕ} {count : ℕ} {list : List ℕ} {f : Fault} {after : List ℕ} → IsTried buffer places count list (Refused f) after → first (season_findings buffer places count (length list)) ≡ some (paper_fault f)
+pub refused_found : {buffer : Bytes} {places : List ℕ} {count : ℕ} {list : List ℕ} {f : Fault} {after : List ℕ} → IsTried buffer places count list (Err f) after → first (season_findings buffer places count (length list)) ≡ some (paper_fault f)
 refused_found {buffer} {places} {count} {list} {f} h = by_cases (first (season_findings buffer places count (length list))) h.answer
   where
-    by_cases : (o : Option Refusal) → paper_tried (Refused f) ≡ trial_of (handed buffer places count) o → o ≡ some (paper_fault f)
+    by_cases : (o : Option Refusal) → paper_tried (Err f) ≡ trial_of (handed buffer places count) o → o ≡ some (paper_fault f)
     by_cases none a = let z : ◌≡◌ {A = ℕ} 0 1 = cc in absurd (omega arith)
     by_cases (some r) a = cc
 
-pub low_position : {buffer : Bytes} {places : List ℕ} {count : ℕ} {list : List ℕ} {f : Fault} {after : List ℕ} → IsTried buffer places count list (Refused f) after → (paper_fault f).line < 1000
+pub low_position : {buffer : Bytes} {places : List ℕ} {count : ℕ} {list : List ℕ} {f : Fault} {after : List ℕ} → IsTried buffer places count list (Err f) after → (paper_fault f).line < 1000
 low_position {buffer} {places} {count} {list} {f} h = low_found buffer places count _ (low_room (length list) count) (paper_fault f) (refused_found h)
 
-pub refusal_changes_nothing : {buffer : Bytes} {places : List ℕ} {count : ℕ} {list : List ℕ} {f : Fault} {after : List ℕ} → IsTried buffer places count list (Refused f) after → after ≡ list
+pub refusal_changes_nothing : {buffer : Bytes} {places : List ℕ} {count : ℕ} {list : List ℕ} {f : Fault} {after : List ℕ} → IsTried buffer places count list (Err f) after → after ≡ list
 refusal_changes_nothing h = rw (refused_found h) at h.lent
 
 -- a single reading, lent room enough, says of a bill what the sieve says of it
@@ -108,7 +112,7 @@ bill_at buffer places count i h =
         let ps = handed buffer places count in
         ap (λ (m : ℕ). drop m ps) (sym (add-one j)) ∙ sym (drop-drop 1 j ps) ∙ ap (drop 1) (rest j (omega arith) ∙ next_line buffer places count j (omega arith)) ∙ ap (still buffer places count) (add-one j)
 
-module _ {buffer : Bytes} {places : List ℕ} {count : ℕ} {list : List ℕ} {n c e : ℕ} {after : List ℕ} (h : IsTried buffer places count list (Listed n c e) after) where
+module _ {buffer : Bytes} {places : List ℕ} {count : ℕ} {list : List ℕ} {n c e : ℕ} {after : List ℕ} (h : IsTried buffer places count list (Ok (record { listed = n; francs = c; euros = e })) after) where
   abbrev pub ps : List Bytes
   ps = handed buffer places count
 
@@ -185,7 +189,7 @@ module _ {buffer : Bytes} {places : List ℕ} {count : ℕ} {list : List ℕ} {n
       (omega (arith, few, bills, gives.francs_are, total_most (adds francs) most_cents (adds_most francs) ps), omega (arith, few, bills, gives.euros_are, total_most (adds euros) most_cents (adds_most euros) ps))
 
 -- whether a bill is listed hangs on the bill alone: whatever else two piles differ in, the same bill at the same position is listed in both or in none
-pub neighbours_stay : {a b : Bytes} {p q : List ℕ} {count : ℕ} {list₁ list₂ : List ℕ} {n₁ c₁ e₁ n₂ c₂ e₂ : ℕ} {after₁ after₂ : List ℕ} → IsTried a p count list₁ (Listed n₁ c₁ e₁) after₁ → IsTried b q count list₂ (Listed n₂ c₂ e₂) after₂
+pub neighbours_stay : {a b : Bytes} {p q : List ℕ} {count : ℕ} {list₁ list₂ : List ℕ} {n₁ c₁ e₁ n₂ c₂ e₂ : ℕ} {after₁ after₂ : List ℕ} → IsTried a p count list₁ (Ok (record { listed = n₁; francs = c₁; euros = e₁ })) after₁ → IsTried b q count list₂ (Ok (record { listed = n₂; francs = c₂; euros = e₂ })) after₂
     → (j : ℕ) → j < count → line_at a p j ≡ line_at b q j → among (take n₁ after₁) (1 + j) ≡ among (take n₂ after₂) (1 + j)
 neighbours_stay h k j less same = listed_if_differs h j less ∙ ap editions_differ same ∙ sym (listed_if_differs k j less)
 

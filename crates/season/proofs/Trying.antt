@@ -13,9 +13,9 @@ use Rattle.sieve.specs.Bytes.{Bytes, over}
 use Rattle.sieve.specs.Writing.{handed}
 use Rattle.sieve.proofs.WriterPromises.{handed_length}
 use Rattle.swiss.specs.Limits.{francs, euros}
-use Rattle.runs.proofs.Lays.{Laying, none_laid, one_laid}
+use Rattle.runs.proofs.Lays.{Laying, one_laid}
 use Rattle.joining.specs.Handing.{line_at}
-use Rattle.joining.proofs.Handing.{still, from_start, next_line, no_line}
+use Rattle.joining.proofs.Handing.{still, next_line, no_line}
 use Rattle.joining.proofs.Laying.{whole}
 use Rattle.season.specs.declared.Outcome.{Outcome}
 use Rattle.season.specs.Season.{positions, total, editions_differ, adds, differing, sum, IsOutcome}
@@ -38,18 +38,6 @@ module _ (buffer : Bytes) (places : List ℕ) (count : ℕ) where
     pub in_euros : e + sum euros (left i) ≡ sum euros bills
     pub low_francs : c ≤ most_cents * i
     pub low_euros : e ≤ most_cents * i
-
-  pub none_tried : (list : List ℕ) → Trying list 0 0 0 0 list
-  none_tried list =
-      record {
-        laid = none_laid list (differing bills);
-        ahead = ap (positions editions_differ 1) (sym (from_start buffer places count));
-        few = omega arith;
-        in_francs = omega (arith, ap (sum francs) (from_start buffer places count));
-        in_euros = omega (arith, ap (sum euros) (from_start buffer places count));
-        low_francs = omega arith;
-        low_euros = omega arith;
-      }
 
   pub listed_few : length (differing bills) ≤ count
   listed_few = omega (arith, positions_few editions_differ 1 bills, handed_length buffer places count)

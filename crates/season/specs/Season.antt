@@ -1,9 +1,7 @@
 -- A recorded pile under both editions: the positions of the bills whose number or line differs, and for each currency the sum in cents of the amounts that 2.2 accepts. Assumes nothing.
-use Rattle.std.specs.Prelude.{ℕ, suc, ◌+◌, ◌≤◌, Bool, false, cond, not, ◌&&◌, List, [], ◌∷◌, ◌++◌, ◌≡◌, length}
+use Rattle.std.specs.Prelude.{ℕ, suc, ◌+◌, ◌≤◌, Bool, false, cond, not, ◌&&◌, List, [], ◌∷◌, ◌++◌, ◌≡◌, length, Result, Ok, Err}
 use Prim.Native.String.{String}
 use Rattle.std.proofs.Math.Option.{Option, some, none}
-use Rattle.std.specs.Borrow.{Bor}
-use denote.Triple.Both.{Both}
 use Rattle.sieve.specs.declared.Break.{Break}
 use Rattle.sieve.specs.Bytes.{Bytes, same}
 use Rattle.sieve.specs.Characters.{characters}
@@ -19,11 +17,9 @@ use Rattle.swiss.specs.Cents.{cents}
 use Rattle.swiss.specs.Forms.{amount}
 use Rattle.swiss.specs.Limits.{amount_most, francs, euros}
 use Rattle.swiss.specs.Swiss.{swiss_in}
-use Rattle.places.specs.Listed.{listed}
-use Rattle.joining.specs.Handing.{Inside}
-use Rattle.pile.specs.Pile.{most_bills, bill_numbers, place_findings, filled_by}
+use Rattle.pile.specs.Pile.{bill_numbers, place_findings, filled_by}
+use Rattle.sieve.specs.declared.Fault.{Fault}
 use Rattle.season.specs.declared.Tried.{Tried}
-use Rattle.season.specs.declared.Tried.TheVariants.{Listed, Refused}
 use Rattle.season.specs.declared.Outcome.{Outcome}
 
 -- the positions, the first of them i, of the bills that pass a test
@@ -89,9 +85,9 @@ pub data Trial : Type 0 where
   tried : ℕ → ℕ → ℕ → Trial
   not_tried : Refusal → Trial
 
-abbrev pub paper_tried : Tried → Trial
-paper_tried (Listed n c e) = tried n c e
-paper_tried (Refused f) = not_tried (paper_fault f)
+abbrev pub paper_tried : Result Tried Fault → Trial
+paper_tried (Ok t) = tried t.listed t.francs t.euros
+paper_tried (Err f) = not_tried (paper_fault f)
 
 abbrev pub tried_all : List Bytes → Trial
 tried_all ps = tried (length (differing ps)) (sum francs ps) (sum euros ps)
@@ -101,38 +97,27 @@ trial_of ps none = tried_all ps
 trial_of ps (some r) = not_tried r
 
 -- of a buffer, places, a count and a list for positions, the answer r and the list afterwards
-pub record IsTried (buffer : Bytes) (places : List ℕ) (count : ℕ) (list : List ℕ) (r : Tried) (after : List ℕ) : Type 0 where
+pub record IsTried (buffer : Bytes) (places : List ℕ) (count : ℕ) (list : List ℕ) (r : Result Tried Fault) (after : List ℕ) : Type 0 where
   pub answer : paper_tried r ≡ trial_of (handed buffer places count) (first (season_findings buffer places count (length list)))
   pub lent : after ≡ filled_by (differing (handed buffer places count)) list (first (season_findings buffer places count (length list)))
 
 -- for the code
 
--- bills that can all be tried, and a list with room for a position of each
-pub record Triable (buffer : Bytes) (places : List ℕ) (count : ℕ) (list : List ℕ) : Type 0 where
-  pub few : count ≤ most_bills
-  pub inside : Inside buffer places count
-  pub room : count ≤ length list
-
 -- all were tried: the answer, and the list afterwards
-pub record AreTried (ps : List Bytes) (list : List ℕ) (r : Tried) (after : List ℕ) : Type 0 where
+pub record AreTried (ps : List Bytes) (list : List ℕ) (r : Result Tried Fault) (after : List ℕ) : Type 0 where
   pub answer : paper_tried r ≡ tried_all ps
   pub lent : after ≡ filled_by (differing ps) list none
-
--- the bills that a call is lent, each the part of the buffer at its place
-abbrev pub handed_bills : (buffer places : Both (Bor (List ℕ)) (Bor (List ℕ))) → ℕ → List Bytes
-handed_bills buffer places count = handed buffer.entry.now places.entry.now count
 
 -- what line 19 of an accepted bill may be: empty or an amount, and short
 pub record AmountLine (s : Bytes) : Type 0 where
   pub short : characters s ≤ amount_most
   pub formed : (not (no_text s) && not (amount s)) ≡ false
 
--- 2.2 accepts a payload, and these are the places of its lines
-pub record AcceptedAt (p : Bytes) (places : List ℕ) : Type 0 where
+-- 2.2 accepts a payload
+pub record IsAccepted (p : Bytes) : Type 0 where
   pub count : ℕ
   pub break : Break
   pub is : verdict (swiss_in V22) p ≡ accepted count break
-  pub at : places ≡ listed p
 
 -- what is told of one bill: whether the editions differ on it, and what it adds to each sum
 pub record IsOutcome (p : Bytes) (differs : Bool) (r : Outcome) : Type 0 where

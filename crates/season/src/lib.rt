@@ -2,27 +2,27 @@
 
 #![tactic(auto)]
 
-ghost use Rattle.std.specs.Prelude.{cond, ◌≡◌, ◌+◌, ◌<◌, get_or, length, set};
+ghost use Rattle.std.specs.Prelude.{cond, ◌≡◌, ◌+◌, ◌≤◌, ◌<◌, get_or, length, set};
 ghost use Rattle.sieve.specs.Paper.{paper, paper_fault};
 ghost use Rattle.swiss.specs.Cents.{cents};
 ghost use Rattle.swiss.specs.Differing.{may_differ};
-ghost use Rattle.pile.specs.Pile.{bill_numbers};
-ghost use Rattle.season.specs.Season.{apart, editions_differ, AmountLine, AcceptedAt, IsOutcome};
-ghost use Rattle.season.specs.Season.{Triable, handed_bills, AreTried, IsTried};
+ghost use Rattle.pile.specs.Pile.{bill_numbers, bills_of};
+ghost use Rattle.season.specs.Season.{apart, editions_differ, AmountLine, IsAccepted, IsOutcome};
+ghost use Rattle.season.specs.Season.{AreTried, IsTried};
 
 use mod97::decimal;
-use pile::{Piled, gather_bills};
-use places::line;
+use pile::{Bills, Gathered};
+use places::Payload;
 use sieve::{Answer, Fault, WALK_NUMBERS, line_of, number_of};
 use swiss::Edition;
 use swiss_judge::judge_in;
 
-// What is answered of a season.
-#[derive(Clone, Copy)]
-pub enum Tried {
-    // how many positions are listed, and the sums in cents, of CHF and of EUR
-    Listed(usize, u64, u64),
-    Refused(Fault),
+// What is told of a season: how many positions are listed, and the sums in cents, of CHF and of EUR.
+#[derive(Clone, Copy, Debug, PartialEq, Eq)]
+pub struct Tried {
+    pub listed: usize,
+    pub francs: u64,
+    pub euros: u64,
 }
 
 // What is told of one bill: whether the editions differ on it, and what it adds to each sum.
@@ -38,8 +38,8 @@ fn number_in(answer: Answer) -> u32
     ensures { result ≡ get_or (bill_numbers (paper answer)) 0 0 }
 {
     match answer {
-        Answer::Accepted(_, _) => 0,
-        Answer::Refused(f) => number_of(f),
+        Ok(_) => 0,
+        Err(f) => number_of(f),
     }
 }
 
@@ -48,8 +48,8 @@ fn line_in(answer: Answer) -> usize
     ensures { result ≡ get_or (bill_numbers (paper answer)) 1 0 }
 {
     match answer {
-        Answer::Accepted(n, _) => n,
-        Answer::Refused(f) => line_of(f),
+        Ok((n, _)) => n,
+        Err(f) => line_of(f),
     }
 }
 
@@ -73,23 +73,23 @@ fn cents(amount: &[u8]) -> u64
     100 * decimal(&amount[0..point]) + decimal(&amount[behind..])
 }
 
-// What a bill that 2.2 accepts adds to the sums, by the places of its lines. Line 20 is then CHF or EUR, so that its
+// What a bill that 2.2 accepts adds to the sums. Line 20 is then CHF or EUR, so that its
 // first letter tells which.
-fn paid(bill: &[u8], places: &[u16; WALK_NUMBERS], differs: bool) -> Outcome
-    requires { AcceptedAt bill.now places.now }
+fn paid(bill: &Payload, differs: bool) -> Outcome
+    requires { IsAccepted bill.now }
     ensures { IsOutcome bill.now differs result }
 {
-    let due = cents(line(bill, places, 19));
-    let currency = line(bill, places, 20);
+    let due = cents(bill.line(19));
+    let currency = bill.line(20);
     if currency[0] == b'C' {
         return Outcome {
-            differs: differs,
+            differs,
             francs: due,
             euros: 0,
         };
     }
     Outcome {
-        differs: differs,
+        differs,
         francs: 0,
         euros: due,
     }
@@ -113,8 +113,8 @@ fn try_bill(bill: &[u8], places: &mut [u16; WALK_NUMBERS]) -> Outcome
 {
     let new = judge_in(bill, places, Edition::V24);
     match new {
-        Answer::Accepted(_, _) => paid(bill, places, false),
-        Answer::Refused(fault) => {
+        Ok(_) => paid(&Payload::new(bill, places), false),
+        Err(fault) => {
             if !may_differ(fault) {
                 return Outcome {
                     differs: false,
@@ -124,8 +124,8 @@ fn try_bill(bill: &[u8], places: &mut [u16; WALK_NUMBERS]) -> Outcome
             }
             let old = judge_in(bill, places, Edition::V22);
             match old {
-                Answer::Accepted(_, _) => paid(bill, places, true),
-                Answer::Refused(_) => Outcome {
+                Ok(_) => paid(&Payload::new(bill, places), true),
+                Err(_) => Outcome {
                     differs: apart(old, new),
                     francs: 0,
                     euros: 0,
@@ -149,40 +149,42 @@ fn list_position(list: &mut [u16], n: usize, position: u16, differs: bool) -> us
 }
 
 // Tries bill after bill, in one pass. No sum of 500 bills comes near the end of 64 bits.
-fn try_all(buffer: &[u8], places: &[u32], count: usize, list: &mut [u16]) -> Tried
-    requires { Triable buffer.now places.now count list.old }
-    ensures { AreTried (handed_bills buffer places count) list.old result list.new }
+fn try_all(gathered: Gathered, list: &mut [u16]) -> Result<Tried, Fault>
+    requires { gathered.bills.count ≤ length list.old }
+    ensures { AreTried (bills_of gathered.entry.bills) list.old result list.new }
 {
     let mut n = 0;
     let mut francs: u64 = 0;
     let mut euros: u64 = 0;
-    let mut i = 0;
     let mut lines = [0; WALK_NUMBERS];
-    while i < count {
-        let start = places[2 * i] as usize;
-        let end = start + places[2 * i + 1] as usize;
-        let bill = try_bill(&buffer[start..end], &mut lines);
-        i += 1;
-        n = list_position(list, n, i as u16, bill.differs);
+    for i in 0..gathered.bills.count {
+        let bill = try_bill(gathered.bills.bill(i), &mut lines);
+        n = list_position(list, n, (i + 1) as u16, bill.differs);
         francs += bill.francs;
         euros += bill.euros;
     }
-    Tried::Listed(n, francs, euros)
+    let tried = Tried {
+        listed: n,
+        francs,
+        euros,
+    };
+    Ok(tried)
 }
 
 // Tries under both editions the bills that the first `count` places give of the buffer. Puts the positions of those
 // whose number or line differs, from 1 and ascending, into the front of the list, and answers how many these are, with
 // the sums in cents of the amounts that 2.2 accepts, of CHF and of EUR. A refusal changes no number.
-pub fn season(buffer: &[u8], places: &[u32], count: usize, list: &mut [u16]) -> Tried
+pub fn season(buffer: &[u8], places: &[u32], count: usize, list: &mut [u16]) -> Result<Tried, Fault>
     ensures { IsTried buffer.now places.now count list.old result list.new }
 {
-    match gather_bills(buffer, places, count) {
-        Piled::Refused(fault) => Tried::Refused(fault),
-        Piled::Done => {
-            if list.len() < count {
-                return Tried::Refused(Fault::NoRoom);
-            }
-            try_all(buffer, places, count, list)
-        }
+    let bills = Bills {
+        buffer,
+        places,
+        count,
+    };
+    bills.gather_bills()?;
+    if list.len() < count {
+        return Err(Fault::NoRoom);
     }
+    try_all(Gathered { bills }, list)
 }

@@ -1,5 +1,5 @@
 -- A list with three numbers for each line: where it lies in a text, and how many characters it has. Assumes nothing.
-use Rattle.std.specs.Prelude.{ℕ, zero, suc, ◌+◌, ◌*◌, ◌≤◌, ◌<◌, Bool, true, List, [], ◌∷◌, ◌≡◌, length, get_or, drop}
+use Rattle.std.specs.Prelude.{ℕ, zero, suc, ◌+◌, ◌*◌, ◌≤◌, ◌<◌, Bool, true, Some, None, List, [], ◌∷◌, ◌≡◌, length, get_or, drop}
 use Rattle.std.proofs.Math.Option.{Option, some, none}
 use Rattle.std.specs.Borrow.{Bor, MutBor}
 use denote.Triple.Both.{Both}
@@ -9,8 +9,6 @@ use Rattle.sieve.specs.Rules.{Measure}
 use Rattle.sieve.specs.Verdict.{Refusal}
 use Rattle.sieve.specs.Places.{walk_lines, walk_numbers, places_in}
 use Rattle.sieve.specs.Writing.{part, handed, mismeasured}
-use Rattle.shown.specs.declared.Wrong.{Wrong}
-use Rattle.shown.specs.declared.Wrong.TheVariants.{Nowhere, At}
 
 -- what is counted of each line
 abbrev pub counts : List Measure
@@ -60,6 +58,7 @@ pub record InsideThree (text : Bytes) (list : List ℕ) (count : ℕ) : Type 0 w
 unfoldable pub first_wrong : Bytes → List ℕ → ℕ → Option Refusal
 first_wrong text list count = mismeasured counts 1 list (handed text (places_in 3 count list) count)
 
-abbrev pub wrong_as : Option Refusal → Wrong
-wrong_as none = Nowhere
-wrong_as (some r) = At r.line
+-- the line that it names, as code answers it
+abbrev pub wrong_as : Option Refusal → Rattle.std.specs.Prelude.Option ℕ
+wrong_as none = None
+wrong_as (some r) = Some r.line

@@ -51,8 +51,7 @@ fn fill_lines(payload: &[u8], places: &[u16], list: &mut [u16], plain: bool, tai
     requires one_per_byte_if { OnePerByteIf plain payload.now × OnePerByte (drop tail payload.now) }
     ensures { list.new ≡ shown_over list payload places }
 {
-    let mut i = 0;
-    while i < WALK_LINES {
+    for i in 0..WALK_LINES {
         let start = places[2 * i];
         let bytes = places[2 * i + 1];
         let from = start as usize;
@@ -61,7 +60,6 @@ fn fill_lines(payload: &[u8], places: &[u16], list: &mut [u16], plain: bool, tai
         list[3 * i] = start;
         list[3 * i + 1] = bytes;
         list[3 * i + 2] = n;
-        i += 1;
     }
 }
 
@@ -85,36 +83,26 @@ pub fn places_in(list: &[u16], places: &mut [u16])
     requires { (shown_size ≤ length list.now) × (length places.old ≡ walk_numbers) }
     ensures { places.new ≡ places_in 3 walk_lines list.now }
 {
-    let mut i = 0;
-    while i < WALK_LINES {
+    for i in 0..WALK_LINES {
         places[2 * i] = list[3 * i];
         places[2 * i + 1] = list[3 * i + 1];
-        i += 1;
     }
 }
 
 // The first line, counted from 1, of which a list says another number of characters than it has.
-#[derive(Clone, Copy)]
-pub enum Wrong {
-    Nowhere,
-    At(usize),
-}
-
-pub fn first_wrong(text: &[u8], list: &[u16], count: usize) -> Wrong
+pub fn first_wrong(text: &[u8], list: &[u16], count: usize) -> Option<usize>
     requires { InsideThree text.now list.now count }
     ensures { result ≡ wrong_as (first_wrong text.now list.now count) }
 {
     let plain = characters(text) == text.len();
-    let mut i = 0;
-    while i < count {
+    for i in 0..count {
         let from = list[3 * i] as usize;
         let to = from + list[3 * i + 1] as usize;
         let told = list[3 * i + 2];
         let n = counted(&text[from..to], plain);
-        i += 1;
         if n != told {
-            return Wrong::At(i);
+            return Some(i + 1);
         }
     }
-    Wrong::Nowhere
+    None
 }

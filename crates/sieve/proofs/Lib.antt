@@ -37,3 +37,4 @@ pub mod Together
 pub mod Room
 pub mod Promises
 pub mod OneAnswer
+pub mod Options

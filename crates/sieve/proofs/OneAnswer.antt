@@ -9,3 +9,6 @@ one_number_of κs a x y v w h k = (h ∙ sym k, refl)
 
 pub one_line_of : OneAnswer contracts.line_of.ended fn.line_of.Reads.Learnt
 one_line_of κs a x y v w h k = (h ∙ sym k, refl)
+
+pub one_place_of : OneAnswer contracts.place_of.ended fn.place_of.Reads.Learnt
+one_place_of κs a x y v w h k = (h ∙ sym k, refl)

@@ -29,3 +29,4 @@ pub mod Promises
 pub mod Cases
 pub mod Examples
 pub mod OneAnswer
+pub mod Options

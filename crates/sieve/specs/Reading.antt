@@ -1,12 +1,11 @@
 -- The reader's whole answer for any payload and any lent list, and what the list then holds. Assumes nothing.
 use Rattle.std.specs.Prelude.{ℕ, List, ◌++◌, ◌≡◌, ltb, drop, length}
 use Rattle.std.proofs.Math.Option.{Option, some, none}
-use Rattle.sieve.specs.declared.Answer.{Answer}
+use Rattle.sieve.specs.Paper.{Answer, paper}
 use Rattle.sieve.specs.Bytes.{Bytes}
 use Rattle.sieve.specs.Lines.{bill_of}
 use Rattle.sieve.specs.Rules.{Layout}
 use Rattle.sieve.specs.Verdict.{Refusal, under, found, Verdict, accepted, refused, verdict}
-use Rattle.sieve.specs.Paper.{paper}
 use Rattle.sieve.specs.Places.{places_of, list_size}
 
 -- what a call answers, and what the memory that it was lent holds afterwards

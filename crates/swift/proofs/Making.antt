@@ -15,9 +15,9 @@ use Rattle.swift.specs.declared.Page.{Page}
 use Rattle.swift.specs.Letters.{leads, laid_line, laid_from}
 use Rattle.swift.specs.Portions.{rows, kept_in}
 use Rattle.swift.specs.Fields.{beneficiary, transaction, remittance, fields, contents}
-use Rattle.swift.specs.Paged.{Sheet, IsFollowed, AreMade}
-use Rattle.swift.proofs.Bounds.{kept_append, at_most_368}
-use Rattle.swift.proofs.Following.{blank, blank_sheet}
+use Rattle.swift.specs.Paged.{blank, Sheet, IsFollowed, AreMade}
+use Rattle.swift.proofs.Bounds.{kept_append}
+use Rattle.swift.proofs.Following.{blank_sheet}
 
 -- lines with a break after each are lines parted by breaks, and a break
 
@@ -90,6 +90,3 @@ module _ (ls : List Bytes) {b₀ b₁ b₂ : Bytes} {p₁ p₂ : Page} (i : IsFo
 -- the length told is that of the contents, and lies within the buffer
 pub as_told : {ls : List Bytes} {after : Bytes} {r : Counts} → AreMade ls after r → r.bytes ≡ length (contents ls)
 as_told counts-are = ap (λ (c : Counts). c.bytes) counts-are.counts
-
-pub in_bounds : {ls : List Bytes} {after : Bytes} {r : Counts} → AreMade ls after r → r.bytes ≤ length after
-in_bounds {ls} counts-are = omega (arith, as_told counts-are, at_most_368 ls, counts-are.size)

@@ -1,5 +1,5 @@
 -- Rows laid on a page, one after the other. Assumes nothing.
-use Prim.Native.Nat.{ℕ, zero, suc, ◌+◌, ◌-◌, ◌≤◌, ◌<◌}
+use Prim.Native.Nat.{ℕ, zero, suc, ◌+◌, ◌-◌, ◌≤◌}
 use native.Mathlib.Nat.{sub-zero}
 use native.Mathlib.Omega.{arith}
 use mathlib.Core.Bool.{true}
@@ -102,21 +102,21 @@ module _ (b b₁ b₂ : Bytes) (page : Page) (row line : Row) (ready : Ready b p
             };
       }
 
--- so it is where the tails of the buffer are lent for both
+-- so it is where the tails of the room are lent for both
 pub row_put : {b t₁ t₂ : Bytes} {page : Page} {row line : Row} → Ready b page → RowFits row → IsLineBegun row line → row.length ≢ 0
-    → let at = page.at in let n = row.length in let b₁ = put_mid at (length b - at) b t₁ in
-    t₁ ≡ over_fitting (mid_of at (length b - at) b) (take (n - 0) line.bytes) → t₂ ≡ over_fitting (mid_of (at + n) (length b₁ - (at + n)) b₁) end
-    → IsLaid b page row (put_mid (at + n) (length b₁ - (at + n)) b₁ t₂) (record { at = at + n + 2; lines = page.lines + 1; replaced = page.replaced + line.replaced; cut = page.cut })
+    → let at = page.at in let n = row.length in let b₁ = put_mid at (370 - at) b t₁ in
+    t₁ ≡ over_fitting (mid_of at (370 - at) b) (take (n - 0) line.bytes) → t₂ ≡ over_fitting (mid_of (at + n) (370 - (at + n)) b₁) end
+    → IsLaid b page row (put_mid (at + n) (370 - (at + n)) b₁ t₂) (record { at = at + n + 2; lines = page.lines + 1; replaced = page.replaced + line.replaced; cut = page.cut })
 row_put {b} {t₁} {t₂} {page} {row} {line} ready ok is some is₁ is₂ =
     let at = page.at in
     let n = row.length in
     let w = take n line.bytes in
-    let b₁ = put_mid at (length b - at) b t₁ in
+    let b₁ = put_mid at (370 - at) b t₁ in
     let size : length w ≡ n = length-take-le n line.bytes (omega (arith, is.room, ok.few)) in
     let fits : at + n + 2 ≤ 370 = omega (arith, ready.roomy.bytes, ready.more, ok.few) in
-    let first : b₁ ≡ take at b ++ (w ++ drop (at + length w) b) = ap (put_mid at (length b - at) b) (rw (sub-zero n) at is₁) ∙ tail_laid at b w (omega (arith, ready.size)) in
+    let first : b₁ ≡ take at b ++ (w ++ drop (at + length w) b) = ap (put_mid at (370 - at) b) (rw (sub-zero n) at is₁) ∙ rw ready.size at (tail_laid at b w (omega (arith, ready.size))) in
     let long : length b₁ ≡ length b = ap length first ∙ long_as_before b w at (omega (arith, ready.size)) in
-    row_laid b b₁ _ page row line ready ok is some first long (ap (put_mid (at + n) (length b₁ - (at + n)) b₁) is₂ ∙ tail_laid (at + n) b₁ end (omega (arith, ready.size)))
+    row_laid b b₁ _ page row line ready ok is some first long (ap (put_mid (at + n) (370 - (at + n)) b₁) is₂ ∙ rw (long ∙ ready.size) at (tail_laid (at + n) b₁ end (omega (arith, long, ready.size))))
 
 -- the first 35 characters fill the same line
 pub rows_once : (s : Bytes) → rows 1 (take line_most s) ≡ rows 1 s
@@ -154,10 +154,6 @@ line_put {buffer} {after} {page} {line} {r} is =
             cut = omega (arith, is.cut, h.cut, l.cut, cut_append qs (q ∷ []), one_cut q);
           };
     }
-
--- a page after a row has room for another, if it had room for two
-pub then_ready : {b after : Bytes} {page r : Page} {row : Row} → Ready b page → IsLaid b page row after r → page.lines + 1 < 10 → Ready after r
-then_ready ready is h = record { size = is.size ∙ ready.size; roomy = is.roomy; more = omega (arith, is.more) }
 
 -- four rows, one after the other
 pub four_laid : {b₀ b₁ b₂ b₃ b₄ : Bytes} {p₀ p₁ p₂ p₃ p₄ : Page} {r₁ r₂ r₃ r₄ : Row} → IsLaid b₀ p₀ r₁ b₁ p₁ → IsLaid b₁ p₁ r₂ b₂ p₂ → IsLaid b₂ p₂ r₃ b₃ p₃ → IsLaid b₃ p₃ r₄ b₄ p₄

@@ -1,4 +1,5 @@
 -- What a user of the fields may rely on, stated on their contract. Assumes nothing.
+use Rattle.std.specs.Prelude.{Ok, Err}
 use Prim.Native.Nat.{ℕ}
 use native.Mathlib.Omega.{arith}
 use mathlib.Core.Option.{Option, some, none}
@@ -12,24 +13,22 @@ use Rattle.sieve.specs.Rules.{Layout}
 use Rattle.sieve.specs.Verdict.{Refusal, first}
 use Rattle.sieve.proofs.PaperLosesNothing.{one_fault}
 use Rattle.swift.specs.declared.Counts.{Counts}
-use Rattle.swift.specs.declared.Mapped.{Mapped}
-use Rattle.swift.specs.declared.Mapped.TheVariants.{Laid, Refused}
 use Rattle.swift.specs.Fields.{contents, counts_of}
-use Rattle.swift.specs.Answering.{mapped, not_mapped, mapped_onto, field_findings, fields_answer, paper_mapped, IsMapped}
+use Rattle.swift.specs.Answering.{mapped, not_mapped, mapped_onto, field_findings, fields_answer, paper_mapped, IsMapped, Mapped}
 
 -- two answers that say the same in the paper's words are equal
 one_mapped : (q r : Mapped) → paper_mapped q ≡ paper_mapped r → q ≡ r
-one_mapped (Laid c) (Laid d) e = ap Laid cc
-one_mapped (Laid c) (Refused g) e = let z : ◌≡◌ {A = ℕ} 0 1 = cc in absurd (omega arith)
-one_mapped (Refused f) (Laid d) e = let z : ◌≡◌ {A = ℕ} 0 1 = cc in absurd (omega arith)
-one_mapped (Refused f) (Refused g) e = ap Refused (one_fault f g cc)
+one_mapped (Ok c) (Ok d) e = ap Ok cc
+one_mapped (Ok c) (Err g) e = let z : ◌≡◌ {A = ℕ} 0 1 = cc in absurd (omega arith)
+one_mapped (Err f) (Ok d) e = let z : ◌≡◌ {A = ℕ} 0 1 = cc in absurd (omega arith)
+one_mapped (Err f) (Err g) e = ap Err (one_fault f g cc)
 
 -- one answer, and one content of the destination
 pub one_mapping : {L : Layout} {p dest : Bytes} {q r : Mapped} {a b : Bytes} → IsMapped L p dest q a → IsMapped L p dest r b → (q ≡ r) × (a ≡ b)
 one_mapping {q = q} {r = r} h k = (one_mapped q r (h.answer ∙ sym k.answer), h.lent ∙ sym k.lent)
 
 -- a refusal changes no byte
-pub refusal_changes_nothing : {L : Layout} {p dest : Bytes} {f : Fault} {after : Bytes} → IsMapped L p dest (Refused f) after → after ≡ dest
+pub refusal_changes_nothing : {L : Layout} {p dest : Bytes} {f : Fault} {after : Bytes} → IsMapped L p dest (Err f) after → after ≡ dest
 unfolding fields_answer
 refusal_changes_nothing {L} {p} {dest} {f} h = h.lent ∙ by_cases (first (field_findings L p _)) h.answer
   where
@@ -38,7 +37,7 @@ refusal_changes_nothing {L} {p} {dest} {f} h = h.lent ∙ by_cases (first (field
     by_cases (some r) e = refl
 
 -- else the counts are told, the contents lie in the front, and what lies behind them stays
-pub laid_in_front : {L : Layout} {p dest : Bytes} {c : Counts} {after : Bytes} → IsMapped L p dest (Laid c) after → (c ≡ counts_of (lines_of (cut p))) × (after ≡ over dest (contents (lines_of (cut p))))
+pub laid_in_front : {L : Layout} {p dest : Bytes} {c : Counts} {after : Bytes} → IsMapped L p dest (Ok c) after → (c ≡ counts_of (lines_of (cut p))) × (after ≡ over dest (contents (lines_of (cut p))))
 unfolding fields_answer
 laid_in_front {L} {p} {dest} {c} h = let (told, is) = by_cases (first (field_findings L p _)) h.answer in (told, h.lent ∙ is)
   where
@@ -47,7 +46,7 @@ laid_in_front {L} {p} {dest} {c} h = let (told, is) = by_cases (first (field_fin
     by_cases (some r) e = let z : ◌≡◌ {A = ℕ} 0 1 = cc in absurd (omega arith)
 
 -- what is found is what is told: nothing where the fields are laid, else the refusal
-pub laid_found_nothing : {L : Layout} {p dest : Bytes} {c : Counts} {after : Bytes} → IsMapped L p dest (Laid c) after → first (field_findings L p (length dest)) ≡ none
+pub laid_found_nothing : {L : Layout} {p dest : Bytes} {c : Counts} {after : Bytes} → IsMapped L p dest (Ok c) after → first (field_findings L p (length dest)) ≡ none
 unfolding fields_answer
 laid_found_nothing {L} {p} {dest} {c} h = by_cases (first (field_findings L p (length dest))) h.answer
   where
@@ -55,7 +54,7 @@ laid_found_nothing {L} {p} {dest} {c} h = by_cases (first (field_findings L p (l
     by_cases none e = refl
     by_cases (some r) e = let z : ◌≡◌ {A = ℕ} 0 1 = cc in absurd (omega arith)
 
-pub refused_found : {L : Layout} {p dest : Bytes} {f : Fault} {after : Bytes} → IsMapped L p dest (Refused f) after → first (field_findings L p (length dest)) ≡ some (paper_fault f)
+pub refused_found : {L : Layout} {p dest : Bytes} {f : Fault} {after : Bytes} → IsMapped L p dest (Err f) after → first (field_findings L p (length dest)) ≡ some (paper_fault f)
 unfolding fields_answer
 refused_found {L} {p} {dest} {f} h = by_cases (first (field_findings L p (length dest))) h.answer
   where

@@ -73,9 +73,6 @@ pub record Going (row : Row) (text : Bytes) (from : ℕ) (next : Row) (at : ℕ)
   pub within : at ≤ length text
   pub reached : (s : Bytes) → RowHolds row s → (d : Bytes) × (RowHolds next d × (d ++ leads (drop at text) ≡ s ++ leads (drop from text)))
 
-pub begun : (row : Row) (text : Bytes) (from : ℕ) → RowFits row → from ≤ length text → Going row text from row from
-begun row text from ok h = record { fillable = ok; within = h; reached = λ s k. (s, (k, refl)) }
-
 -- the byte at a place begins a character, or it does not
 leads_step : (text : Bytes) (at : ℕ) → at < length text → leads (drop at text) ≡ cond (within 0x80 0xBF (get_or text at 0)) (leads (drop (at + 1) text)) (get_or text at 0 ∷ leads (drop (at + 1) text))
 unfolding leads

@@ -1,5 +1,5 @@
 -- What is answered for a payload and a destination, and what the destination then holds. Assumes nothing.
-use Rattle.std.specs.Prelude.{ℕ, List, [], ◌∷◌, ◌≡◌, length}
+use Rattle.std.specs.Prelude.{ℕ, List, [], ◌∷◌, ◌≡◌, length, Result, Ok, Err}
 use Rattle.std.proofs.Math.Option.{Option, some, none}
 use Rattle.sieve.specs.Bytes.{Bytes, over}
 use Rattle.sieve.specs.Lines.{cut, lines_of}
@@ -9,9 +9,8 @@ use Rattle.sieve.specs.Reading.{Done, no_room_refusal}
 use Rattle.sieve.specs.Verdict.{Refusal, under, found, findings, first}
 use Rattle.swiss.specs.declared.Edition.{Edition}
 use Rattle.swiss.specs.Swiss.{swiss_in}
+use Rattle.sieve.specs.declared.Fault.{Fault}
 use Rattle.swift.specs.declared.Counts.{Counts}
-use Rattle.swift.specs.declared.Mapped.{Mapped}
-use Rattle.swift.specs.declared.Mapped.TheVariants.{Laid, Refused}
 use Rattle.swift.specs.Fields.{contents, counts_of}
 
 -- 16: a bill without amount
@@ -40,9 +39,12 @@ unfoldable pub fields_answer : Layout → Bytes → Bytes → Done Mapping
 fields_answer L p dest = mapped_onto (lines_of (cut p)) dest (first (field_findings L p (length dest)))
 
 -- what the code answers, in the paper's words
+abbrev pub Mapped : Type 0
+Mapped = Result Counts Fault
+
 abbrev pub paper_mapped : Mapped → Mapping
-paper_mapped (Laid c) = mapped c
-paper_mapped (Refused f) = not_mapped (paper_fault f)
+paper_mapped (Ok c) = mapped c
+paper_mapped (Err f) = not_mapped (paper_fault f)
 
 -- of a payload and a destination, the answer r and the destination afterwards
 pub record IsMapped (L : Layout) (p dest : Bytes) (r : Mapped) (after : Bytes) : Type 0 where

@@ -11,8 +11,8 @@ use Rattle.sieve.specs.Rules.{line}
 use Rattle.sieve.specs.Verdict.{findings, first}
 use Rattle.swiss.specs.declared.Edition.{Edition}
 use Rattle.swiss.specs.Swiss.{swiss_in}
-use Rattle.places.specs.Listed.{listed}
 use Rattle.swift.specs.declared.Counts.{Counts}
+use Rattle.swift.specs.declared.Draft.{Draft}
 use Rattle.swift.specs.declared.Line.{Line}
 use Rattle.swift.specs.declared.Page.{Page}
 use Rattle.swift.specs.declared.Row.{Row}
@@ -25,6 +25,15 @@ use Rattle.swift.specs.Rowed.{RowFits, RowHolds, Lined}
 pub record Roomy (page : Page) : Type 0 where
   pub bytes : page.at ≤ 37 * page.lines
   pub fewer : page.replaced ≤ 36 * page.lines
+
+-- a page with nothing on it
+abbrev pub blank : Page
+blank = record { at = 0; lines = 0; replaced = 0; cut = 0 }
+
+-- a draft of such a page, with room for ten lines
+pub record IsBlank (draft : Draft) : Type 0 where
+  pub size : length draft.room ≡ 370
+  pub page : draft.page ≡ blank
 
 -- a page with room for a line more, on a buffer for ten lines
 pub record Ready (buffer : Bytes) (page : Page) : Type 0 where
@@ -86,28 +95,28 @@ pub record IsFollowed (buffer : Bytes) (page : Page) (n : ℕ) (qs : List Portio
   pub cut_few : r.cut ≤ page.cut + 8192 * n
   pub sheet : (ps : List Portion) → Sheet buffer page ps → Sheet after r (ps ++ qs)
 
--- of what a call is lent, at its entry and at its exit
+-- of a draft, at the entry of a call and at its exit
 
--- on its buffer portions were laid behind what lay on the page
-abbrev pub IsLaidBehind : (buffer : Both (MutBor Bytes) (MutBor Bytes)) → Page → ℕ → List Portion → Page → Type 0
-IsLaidBehind buffer page n qs r = IsFollowed buffer.entry.now page n qs buffer.exit.now r
+-- portions were laid in its room, behind what lay on the page
+abbrev pub IsLaidBehind : (draft : Both (MutBor Draft) (MutBor Draft)) → ℕ → List Portion → Type 0
+IsLaidBehind draft n qs = IsFollowed draft.entry.now.room draft.entry.now.page n qs draft.exit.now.room draft.exit.now.page
 
 -- those that a definition makes of a payload's lines
-abbrev pub IsFollowedBy : (buffer : Both (MutBor Bytes) (MutBor Bytes)) → Page → ℕ → (List Bytes → List Portion) → (payload : Both (Bor Bytes) (Bor Bytes)) → Page → Type 0
-IsFollowedBy buffer page n part payload r = IsLaidBehind buffer page n (part (lines_of (cut payload.entry.now))) r
+abbrev pub IsFollowedBy : (draft : Both (MutBor Draft) (MutBor Draft)) → ℕ → (List Bytes → List Portion) → (payload : Both (Bor Bytes) (Bor Bytes)) → Type 0
+IsFollowedBy draft n part payload = IsLaidBehind draft n (part (lines_of (cut payload.entry.now)))
 
 -- one line, of a text behind a prefix
-abbrev pub IsTextLaid : (buffer : Both (MutBor Bytes) (MutBor Bytes)) → Page → (prefix text : Both (Bor Bytes) (Bor Bytes)) → Page → Type 0
-IsTextLaid buffer page prefix text r = IsLaidBehind buffer page 1 (on_lines 1 (prefix.entry.now ++ text.entry.now) ∷ []) r
+abbrev pub IsTextLaid : (draft : Both (MutBor Draft) (MutBor Draft)) → (prefix text : Both (Bor Bytes) (Bor Bytes)) → Type 0
+IsTextLaid draft prefix text = IsLaidBehind draft 1 (on_lines 1 (prefix.entry.now ++ text.entry.now) ∷ [])
 
 -- one line, of a payload's line n behind a prefix
-abbrev pub IsLineLaid : (buffer : Both (MutBor Bytes) (MutBor Bytes)) → Page → (prefix payload : Both (Bor Bytes) (Bor Bytes)) → ℕ → Page → Type 0
-IsLineLaid buffer page prefix payload n r = IsFollowedBy buffer page 1 (λ ls. on_lines 1 (prefix.entry.now ++ line n ls) ∷ []) payload r
+abbrev pub IsLineLaid : (draft : Both (MutBor Draft) (MutBor Draft)) → (prefix payload : Both (Bor Bytes) (Bor Bytes)) → ℕ → Type 0
+IsLineLaid draft prefix payload n = IsFollowedBy draft 1 (λ ls. on_lines 1 (prefix.entry.now ++ line n ls) ∷ []) payload
 
 -- field 70, of a kind of reference, the reference and the message
-abbrev pub IsReferenceLaid : (buffer : Both (MutBor Bytes) (MutBor Bytes)) → Page → (kind reference message : Both (Bor Bytes) (Bor Bytes)) → Page → Type 0
-IsReferenceLaid buffer page kind reference message r =
-    IsLaidBehind buffer page 4 (remittance_of kind.entry.now reference.entry.now message.entry.now) r
+abbrev pub IsReferenceLaid : (draft : Both (MutBor Draft) (MutBor Draft)) → (kind reference message : Both (Bor Bytes) (Bor Bytes)) → Type 0
+IsReferenceLaid draft kind reference message =
+    IsLaidBehind draft 4 (remittance_of kind.entry.now reference.entry.now message.entry.now)
 
 -- field 70 with the message from row `first` on, 0 or 1, and the characters s before it
 abbrev pub remitted : ℕ → Bytes → Bytes → List Portion
@@ -118,13 +127,12 @@ remitted (suc n) s m = record { text = s; lines = 1 } ∷ record { text = m; lin
 pub record IsRemitted (buffer : Bytes) (page : Page) (reference : Line) (first : ℕ) (text : Bytes) (after : Bytes) (r : Page) : Type 0 where
   pub follows : (s : Bytes) → Lined reference s → (first ≡ 0 → s ≡ []) → IsFollowed buffer page 4 (remitted first s (leads text)) after r
 
--- so of what a call is lent, at its entry and at its exit
-abbrev pub IsRemittedOn : (buffer : Both (MutBor Bytes) (MutBor Bytes)) → Page → Line → ℕ → (message : Both (Bor Bytes) (Bor Bytes)) → Page → Type 0
-IsRemittedOn buffer page reference first message r = IsRemitted buffer.entry.now page reference first message.entry.now buffer.exit.now r
+-- so of a draft, at the entry of a call and at its exit
+abbrev pub IsRemittedOn : (draft : Both (MutBor Draft) (MutBor Draft)) → Line → ℕ → (message : Both (Bor Bytes) (Bor Bytes)) → Type 0
+IsRemittedOn draft reference first message = IsRemitted draft.entry.now.room draft.entry.now.page reference first message.entry.now draft.exit.now.room draft.exit.now.page
 
--- a bill that the reader accepts under an edition, and the places of its lines
-pub record Payable (p : Bytes) (places : List ℕ) : Type 0 where
-  pub listed : places ≡ listed p
+-- a bill that the reader accepts under an edition
+pub record Payable (p : Bytes) : Type 0 where
   pub edition : Edition
   pub kept : first (findings (swiss_in edition) p) ≡ none
 

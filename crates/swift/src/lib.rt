@@ -11,14 +11,15 @@ ghost use Rattle.swiss.specs.Forms.{amount};
 ghost use Rattle.swiss.specs.Swiss.{swiss_in};
 ghost use Rattle.swift.specs.Letters.{in_x};
 ghost use Rattle.swift.specs.Rowed.{AreShort, RowFits, IsFilled, IsLineBegun, Lined, IsLineOf, IsAdded, SmallLine, IsRows};
-ghost use Rattle.swift.specs.Paged.{Ready, IsLaid, IsPut, AllFillable, AreLaid, IsRemittedOn, Open, Payable, AreMade};
+ghost use Rattle.swift.specs.Paged.{Ready, IsLaid, IsPut, AllFillable, AreLaid, IsRemittedOn, Open, IsBlank, Payable, AreMade};
 ghost use Rattle.swift.specs.Paged.{IsFollowedBy, IsTextLaid, IsLineLaid, IsReferenceLaid};
 ghost use Rattle.swift.specs.Fields.{street_text, town_text, street_line, town_line, structured_lines, combined_address};
 ghost use Rattle.swift.specs.Fields.{combined_lines, beneficiary, with_comma, transaction, remittance};
 ghost use Rattle.swift.specs.Answering.{IsMapped, IsMappedBill};
 
+use places::Payload;
 use runs::{characters, lay, same};
-use sieve::{Answer, Fault, WALK_NUMBERS};
+use sieve::{Fault, WALK_NUMBERS};
 use swiss::Edition;
 use swiss_judge::judge_in;
 
@@ -33,13 +34,6 @@ pub struct Counts {
     // characters cut, and characters kept that were replaced
     pub cut: usize,
     pub replaced: usize,
-}
-
-// What is answered: the fields were laid, or nothing was.
-#[derive(Clone, Copy)]
-pub enum Mapped {
-    Laid(Counts),
-    Refused(Fault),
 }
 
 // The x set, a bit for each byte: space / - ? : ( ) . , ' + and 0-9 are below 64, A-Z and a-z from there on.
@@ -87,8 +81,7 @@ fn fill(row: Row, text: &[u8], from: usize) -> Filled
     let mut bytes = row.bytes;
     let mut length = row.length;
     let mut replaced = row.replaced;
-    let mut at = from;
-    while at < text.len() {
+    for at in from..text.len() {
         if length == 35 {
             let row = Row {
                 bytes,
@@ -108,14 +101,16 @@ fn fill(row: Row, text: &[u8], from: usize) -> Filled
                 replaced += 1;
             }
         }
-        at += 1;
     }
     let row = Row {
         bytes,
         length,
         replaced,
     };
-    Filled { row, at }
+    Filled {
+        row,
+        at: text.len(),
+    }
 }
 
 // A row that is not empty, as a line: a colon or hyphen that begins it becomes a full stop.
@@ -150,7 +145,7 @@ fn no_characters() -> Line
         length: 0,
         replaced: 0,
     };
-    Line { row: row, cut: 0 }
+    Line { row, cut: 0 }
 }
 
 // Puts the characters of a text behind those of a line, and counts those that find no room.
@@ -158,12 +153,12 @@ fn add(line: Line, text: &[u8]) -> Line
     requires { SmallLine line 8192 × (length text.now ≤ 1024) }
     ensures { IsAdded line text.now result }
 {
-    let row = line.row;
-    let filled = fill(row, text, 0);
-    let at = filled.at;
-    let cut = line.cut + characters(&text[at..]);
-    let row = filled.row;
-    Line { row: row, cut: cut }
+    let filled = fill(line.row, text, 0);
+    let cut = line.cut + characters(&text[filled.at..]);
+    Line {
+        row: filled.row,
+        cut,
+    }
 }
 
 // How far a page of lines is laid: its bytes, its lines, the characters that stand for others, and those that were cut.
@@ -173,44 +168,6 @@ struct Page {
     lines: usize,
     replaced: usize,
     cut: usize,
-}
-
-// Lays a row, with CR LF after it, behind what lies on the page; one with no character isn't laid.
-fn lay_row(buffer: &mut [u8], page: Page, row: Row) -> Page
-    requires { Ready buffer.old page × RowFits row }
-    ensures { IsLaid buffer.old page row buffer.new result }
-{
-    let n = row.length;
-    if n == 0 {
-        return page;
-    }
-    let line = begun(row);
-    let bytes = line.bytes;
-    let at = page.at;
-    let end = at + n;
-    lay(&mut buffer[at..], &bytes[0..n]);
-    lay(&mut buffer[end..], b"\r\n");
-    Page {
-        at: end + 2,
-        lines: page.lines + 1,
-        replaced: page.replaced + line.replaced,
-        cut: page.cut,
-    }
-}
-
-// Lays a line on the page, and counts what was cut of it.
-fn lay_line(buffer: &mut [u8], page: Page, line: Line) -> Page
-    requires { Ready buffer.old page × SmallLine line 8192 × (page.cut ≤ 73728) }
-    ensures { IsPut buffer.old page line buffer.new result }
-{
-    let row = line.row;
-    let laid = lay_row(buffer, page, row);
-    Page {
-        at: laid.at,
-        lines: laid.lines,
-        replaced: laid.replaced,
-        cut: laid.cut + line.cut,
-    }
 }
 
 // A line with a text behind its prefix.
@@ -282,269 +239,253 @@ fn fill_rows(reference: Row, first: usize, message: &[u8]) -> FourRows
     let empty = none.row;
     let mut rows = [reference; 4];
     let mut at = 0;
-    let mut i = first;
-    while i < 4 {
+    for i in first..4 {
         let filled = fill(empty, message, at);
         at = filled.at;
-        let row = filled.row;
-        rows[i] = row;
-        i += 1;
+        rows[i] = filled.row;
     }
-    FourRows { rows: rows, at: at }
+    FourRows { rows, at }
 }
 
-// Lays four rows, one after the other.
-fn lay_rows(buffer: &mut [u8], page: Page, rows: [Row; 4]) -> Page
-    requires { Ready buffer.old page × (page.lines ≤ 6) × AllFillable rows }
-    ensures { AreLaid buffer.old page rows buffer.new result }
-{
-    let first = rows[0];
-    let second = rows[1];
-    let third = rows[2];
-    let fourth = rows[3];
-    let after_first = lay_row(buffer, page, first);
-    let after_second = lay_row(buffer, after_first, second);
-    let after_third = lay_row(buffer, after_second, third);
-    lay_row(buffer, after_third, fourth)
-}
-
-// Lays field 70 behind what lies on the page: four rows, the reference on those before row `first`, the message on the others.
-fn lay_remittance(
-    buffer: &mut [u8],
+// The fields of a bill while they are laid: room for their ten lines, and how far they are laid in it.
+#[derive(Drop)]
+struct Draft {
+    room: [u8; 370],
     page: Page,
-    reference: Line,
-    first: usize,
-    message: &[u8],
-) -> Page
-    requires ready { Ready buffer.old page × (page.lines ≤ 6) × (page.cut ≤ 73728) }
-    requires small_line { SmallLine reference 8192 × (first ≤ 1) × (length message.now ≤ 1024) }
-    ensures { IsRemittedOn buffer page reference first message result }
-{
-    let row = reference.row;
-    let filled = fill_rows(row, first, message);
-    let at = filled.at;
-    let cut = reference.cut + characters(&message[at..]);
-    let rows = filled.rows;
-    let laid = lay_rows(buffer, page, rows);
-    Page {
-        at: laid.at,
-        lines: laid.lines,
-        replaced: laid.replaced,
-        cut: laid.cut + cut,
+}
+
+impl Draft {
+    // A draft with nothing on it.
+    fn blank() -> Draft
+        ensures { IsBlank result }
+    {
+        Draft {
+            room: [0; 370],
+            page: Page {
+                at: 0,
+                lines: 0,
+                replaced: 0,
+                cut: 0,
+            },
+        }
     }
-}
 
-// Lays field 70 for a kind of reference, the reference and the message.
-fn lay_reference(
-    buffer: &mut [u8],
-    page: Page,
-    kind: &[u8],
-    reference: &[u8],
-    message: &[u8],
-) -> Page
-    requires ready { Ready buffer.old page × (page.lines ≤ 6) × (page.cut ≤ 73728) }
-    requires are_short { AreShort kind.now reference.now message.now }
-    ensures { IsReferenceLaid buffer page kind reference message result }
-{
-    if same(kind, b"NON") {
-        return lay_remittance(buffer, page, no_characters(), 0, message);
+    // Lays a row, with CR LF after it, behind what lies on the page; one with no character isn't laid.
+    fn lay_row(&mut self, row: Row)
+        requires { Ready self.old.room self.old.page × RowFits row }
+        ensures { IsLaid self.old.room self.old.page row self.new.room self.new.page }
+    {
+        let n = row.length;
+        if n == 0 {
+            return;
+        }
+        let line = begun(row);
+        let at = self.page.at;
+        let end = at + n;
+        lay(&mut self.room[at..], &line.bytes[0..n]);
+        lay(&mut self.room[end..], b"\r\n");
+        self.page.at = end + 2;
+        self.page.lines += 1;
+        self.page.replaced += line.replaced;
     }
-    let line = prefixed_line(kind, b"/");
-    let line = add(line, reference);
-    lay_remittance(buffer, page, line, 1, message)
-}
 
-// Lays a line with a text behind its prefix.
-fn lay_text(buffer: &mut [u8], page: Page, prefix: &[u8], text: &[u8]) -> Page
-    requires { Open buffer.old page 1 × (length prefix.now ≤ 1024) × (length text.now ≤ 1024) }
-    ensures { IsTextLaid buffer page prefix text result }
-{
-    let line = prefixed_line(prefix, text);
-    lay_line(buffer, page, line)
-}
-
-// Lays line n of an accepted bill behind a prefix.
-fn lay_bill_line(
-    buffer: &mut [u8],
-    page: Page,
-    payload: &[u8],
-    places: &[u16; WALK_NUMBERS],
-    n: usize,
-    prefix: &[u8],
-) -> Page
-    requires fact { Open buffer.old page 1 × Payable payload.now places.now }
-    requires le_n { (1 ≤ n) × (n ≤ walk_lines) × (length prefix.now ≤ 1024) }
-    ensures { IsLineLaid buffer page prefix payload n result }
-{
-    lay_text(buffer, page, prefix, places::line(payload, places, n))
-}
-
-// Lays the line of its street and number.
-fn lay_street(buffer: &mut [u8], page: Page, payload: &[u8], places: &[u16; WALK_NUMBERS]) -> Page
-    requires { Open buffer.old page 1 × Payable payload.now places.now }
-    ensures { IsFollowedBy buffer page 1 street_line payload result }
-{
-    let street = places::line(payload, places, 7);
-    let number = places::line(payload, places, 8);
-    let line = street_line(street, number);
-    lay_line(buffer, page, line)
-}
-
-// Lays the line of its country, postcode and town.
-fn lay_town(buffer: &mut [u8], page: Page, payload: &[u8], places: &[u16; WALK_NUMBERS]) -> Page
-    requires { Open buffer.old page 1 × Payable payload.now places.now }
-    ensures { IsFollowedBy buffer page 1 town_line payload result }
-{
-    let country = places::line(payload, places, 11);
-    let postcode = places::line(payload, places, 9);
-    let town = places::line(payload, places, 10);
-    let line = town_line(country, postcode, town);
-    lay_line(buffer, page, line)
-}
-
-// Lays what follows the account in field 59a, of an address of type S: name, street and number, town.
-fn lay_structured(
-    buffer: &mut [u8],
-    page: Page,
-    payload: &[u8],
-    places: &[u16; WALK_NUMBERS],
-) -> Page
-    requires { Open buffer.old page 3 × Payable payload.now places.now }
-    ensures { IsFollowedBy buffer page 3 structured_lines payload result }
-{
-    let named = lay_bill_line(buffer, page, payload, places, 6, b"1/");
-    let housed = lay_street(buffer, named, payload, places);
-    lay_town(buffer, housed, payload, places)
-}
-
-// Lays the two address lines of an address of type K.
-fn lay_address_lines(
-    buffer: &mut [u8],
-    page: Page,
-    payload: &[u8],
-    places: &[u16; WALK_NUMBERS],
-) -> Page
-    requires { Open buffer.old page 2 × Payable payload.now places.now }
-    ensures { IsFollowedBy buffer page 2 combined_address payload result }
-{
-    let first = lay_bill_line(buffer, page, payload, places, 7, b"");
-    lay_bill_line(buffer, first, payload, places, 8, b"")
-}
-
-// Lays what follows the account in field 59a, of an address of type K: name, address lines, country.
-fn lay_combined(buffer: &mut [u8], page: Page, payload: &[u8], places: &[u16; WALK_NUMBERS]) -> Page
-    requires { Open buffer.old page 4 × Payable payload.now places.now }
-    ensures { IsFollowedBy buffer page 4 combined_lines payload result }
-{
-    let named = lay_bill_line(buffer, page, payload, places, 6, b"");
-    let housed = lay_address_lines(buffer, named, payload, places);
-    lay_bill_line(buffer, housed, payload, places, 11, b"")
-}
-
-// Lays field 59a of an accepted bill: its account, and what follows for the type of its address.
-fn lay_beneficiary(
-    buffer: &mut [u8],
-    page: Page,
-    payload: &[u8],
-    places: &[u16; WALK_NUMBERS],
-) -> Page
-    requires { Open buffer.old page 5 × Payable payload.now places.now }
-    ensures { IsFollowedBy buffer page 5 beneficiary payload result }
-{
-    let paid = lay_bill_line(buffer, page, payload, places, 4, b"/");
-    let kind = places::line(payload, places, 5);
-    if same(kind, &Edition::COMBINED) {
-        return lay_combined(buffer, paid, payload, places);
+    // Lays a line on the page, and counts what was cut of it.
+    fn lay_line(&mut self, line: Line)
+        requires { Ready self.old.room self.old.page × SmallLine line 8192 × (self.old.page.cut ≤ 73728) }
+        ensures { IsPut self.old.room self.old.page line self.new.room self.new.page }
+    {
+        self.lay_row(line.row);
+        self.page.cut += line.cut;
     }
-    lay_structured(buffer, paid, payload, places)
-}
 
-// Lays field 32B of an accepted bill that has an amount.
-fn lay_transaction(
-    buffer: &mut [u8],
-    page: Page,
-    payload: &[u8],
-    places: &[u16; WALK_NUMBERS],
-) -> Page
-    requires fact { Open buffer.old page 1 × Payable payload.now places.now }
-    requires payload_value { amount (line 19 (lines_of (cut payload.now))) ≡ true }
-    ensures { IsFollowedBy buffer page 1 transaction payload result }
-{
-    let currency = places::line(payload, places, 20);
-    let paid = places::line(payload, places, 19);
-    let line = amount_line(currency, paid);
-    lay_line(buffer, page, line)
-}
+    // Lays four rows, one after the other.
+    fn lay_rows(&mut self, rows: [Row; 4])
+        requires { Ready self.old.room self.old.page × (self.old.page.lines ≤ 6) × AllFillable rows }
+        ensures { AreLaid self.old.room self.old.page rows self.new.room self.new.page }
+    {
+        self.lay_row(rows[0]);
+        self.lay_row(rows[1]);
+        self.lay_row(rows[2]);
+        self.lay_row(rows[3]);
+    }
 
-// Lays field 70 of an accepted bill.
-fn lay_information(
-    buffer: &mut [u8],
-    page: Page,
-    payload: &[u8],
-    places: &[u16; WALK_NUMBERS],
-) -> Page
-    requires { Open buffer.old page 4 × Payable payload.now places.now }
-    ensures { IsFollowedBy buffer page 4 remittance payload result }
-{
-    let kind = places::line(payload, places, 28);
-    let reference = places::line(payload, places, 29);
-    let message = places::line(payload, places, 30);
-    lay_reference(buffer, page, kind, reference, message)
-}
+    // Lays field 70 behind what lies on the page: four rows, the reference on those before row `first`, the message on the others.
+    fn lay_remittance(&mut self, reference: Line, first: usize, message: &[u8])
+        requires ready { Ready self.old.room self.old.page × (self.old.page.lines ≤ 6) × (self.old.page.cut ≤ 73728) }
+        requires small_line { SmallLine reference 8192 × (first ≤ 1) × (length message.now ≤ 1024) }
+        ensures { IsRemittedOn self reference first message }
+    {
+        let filled = fill_rows(reference.row, first, message);
+        let cut = reference.cut + characters(&message[filled.at..]);
+        self.lay_rows(filled.rows);
+        self.page.cut += cut;
+    }
 
-// Lays all three fields of an accepted bill that has an amount, in the front of a buffer for ten lines, and counts.
-fn lay_fields(buffer: &mut [u8], payload: &[u8], places: &[u16; WALK_NUMBERS]) -> Counts
-    requires buffer_len { (length buffer.old ≡ 370) × Payable payload.now places.now }
-    requires payload_value { amount (line 19 (lines_of (cut payload.now))) ≡ true }
-    ensures { AreMade (lines_of (cut payload.now)) buffer.new result }
-{
-    let page = Page {
-        at: 0,
-        lines: 0,
-        replaced: 0,
-        cut: 0,
-    };
-    let first = lay_beneficiary(buffer, page, payload, places);
-    let second = lay_transaction(buffer, first, payload, places);
-    let third = lay_information(buffer, second, payload, places);
-    Counts {
-        bytes: third.at - 2,
-        beneficiary: first.lines,
-        transaction: second.lines - first.lines,
-        remittance: third.lines - second.lines,
-        cut: third.cut,
-        replaced: third.replaced,
+    // Lays field 70 for a kind of reference, the reference and the message.
+    fn lay_reference(&mut self, kind: &[u8], reference: &[u8], message: &[u8])
+        requires ready { Ready self.old.room self.old.page × (self.old.page.lines ≤ 6) × (self.old.page.cut ≤ 73728) }
+        requires are_short { AreShort kind.now reference.now message.now }
+        ensures { IsReferenceLaid self kind reference message }
+    {
+        if same(kind, b"NON") {
+            self.lay_remittance(no_characters(), 0, message);
+            return;
+        }
+        let line = prefixed_line(kind, b"/");
+        self.lay_remittance(add(line, reference), 1, message);
+    }
+
+    // Lays a line with a text behind its prefix.
+    fn lay_text(&mut self, prefix: &[u8], text: &[u8])
+        requires { Open self.old.room self.old.page 1 × (length prefix.now ≤ 1024) × (length text.now ≤ 1024) }
+        ensures { IsTextLaid self prefix text }
+    {
+        self.lay_line(prefixed_line(prefix, text));
+    }
+
+    // Lays line n of an accepted bill behind a prefix.
+    fn lay_bill_line(&mut self, bill: &Payload, n: usize, prefix: &[u8])
+        requires fact { Open self.old.room self.old.page 1 × Payable bill.now }
+        requires le_n { (1 ≤ n) × (n ≤ walk_lines) × (length prefix.now ≤ 1024) }
+        ensures { IsLineLaid self prefix bill n }
+    {
+        self.lay_text(prefix, bill.line(n));
+    }
+
+    // Lays the line of its street and number.
+    fn lay_street(&mut self, bill: &Payload)
+        requires { Open self.old.room self.old.page 1 × Payable bill.now }
+        ensures { IsFollowedBy self 1 street_line bill }
+    {
+        let street = bill.line(7);
+        let number = bill.line(8);
+        self.lay_line(street_line(street, number));
+    }
+
+    // Lays the line of its country, postcode and town.
+    fn lay_town(&mut self, bill: &Payload)
+        requires { Open self.old.room self.old.page 1 × Payable bill.now }
+        ensures { IsFollowedBy self 1 town_line bill }
+    {
+        let country = bill.line(11);
+        let postcode = bill.line(9);
+        let town = bill.line(10);
+        self.lay_line(town_line(country, postcode, town));
+    }
+
+    // Lays what follows the account in field 59a, of an address of type S: name, street and number, town.
+    fn lay_structured(&mut self, bill: &Payload)
+        requires { Open self.old.room self.old.page 3 × Payable bill.now }
+        ensures { IsFollowedBy self 3 structured_lines bill }
+    {
+        self.lay_bill_line(bill, 6, b"1/");
+        self.lay_street(bill);
+        self.lay_town(bill);
+    }
+
+    // Lays the two address lines of an address of type K.
+    fn lay_address_lines(&mut self, bill: &Payload)
+        requires { Open self.old.room self.old.page 2 × Payable bill.now }
+        ensures { IsFollowedBy self 2 combined_address bill }
+    {
+        self.lay_bill_line(bill, 7, b"");
+        self.lay_bill_line(bill, 8, b"");
+    }
+
+    // Lays what follows the account in field 59a, of an address of type K: name, address lines, country.
+    fn lay_combined(&mut self, bill: &Payload)
+        requires { Open self.old.room self.old.page 4 × Payable bill.now }
+        ensures { IsFollowedBy self 4 combined_lines bill }
+    {
+        self.lay_bill_line(bill, 6, b"");
+        self.lay_address_lines(bill);
+        self.lay_bill_line(bill, 11, b"");
+    }
+
+    // Lays field 59a of an accepted bill: its account, and what follows for the type of its address.
+    fn lay_beneficiary(&mut self, bill: &Payload)
+        requires { Open self.old.room self.old.page 5 × Payable bill.now }
+        ensures { IsFollowedBy self 5 beneficiary bill }
+    {
+        self.lay_bill_line(bill, 4, b"/");
+        if same(bill.line(5), &Edition::COMBINED) {
+            self.lay_combined(bill);
+        } else {
+            self.lay_structured(bill);
+        }
+    }
+
+    // Lays field 32B of an accepted bill that has an amount.
+    fn lay_transaction(&mut self, bill: &Payload)
+        requires fact { Open self.old.room self.old.page 1 × Payable bill.now }
+        requires payload_value { amount (line 19 (lines_of (cut bill.now))) ≡ true }
+        ensures { IsFollowedBy self 1 transaction bill }
+    {
+        let currency = bill.line(20);
+        let paid = bill.line(19);
+        self.lay_line(amount_line(currency, paid));
+    }
+
+    // Lays field 70 of an accepted bill.
+    fn lay_information(&mut self, bill: &Payload)
+        requires { Open self.old.room self.old.page 4 × Payable bill.now }
+        ensures { IsFollowedBy self 4 remittance bill }
+    {
+        let kind = bill.line(28);
+        let reference = bill.line(29);
+        let message = bill.line(30);
+        self.lay_reference(kind, reference, message);
+    }
+
+    // Lays all three fields of an accepted bill that has an amount, and counts.
+    fn lay_fields(&mut self, bill: &Payload) -> Counts
+        requires blank { IsBlank self.old × Payable bill.now }
+        requires payload_value { amount (line 19 (lines_of (cut bill.now))) ≡ true }
+        ensures { AreMade (lines_of (cut bill.now)) self.new.room result }
+    {
+        self.lay_beneficiary(bill);
+        let beneficiary = self.page.lines;
+        self.lay_transaction(bill);
+        let transaction = self.page.lines;
+        self.lay_information(bill);
+        let page = self.page;
+        Counts {
+            bytes: page.at - 2,
+            beneficiary,
+            transaction: transaction - beneficiary,
+            remittance: page.lines - transaction,
+            cut: page.cut,
+            replaced: page.replaced,
+        }
     }
 }
 
-// Lays the fields of an accepted bill, made in a buffer of their own, in the front of the destination: it must have an
+// Lays the fields of an accepted bill, made in a draft of their own, in the front of the destination: it must have an
 // amount, and the destination room.
-fn map_bill(payload: &[u8], places: &[u16; WALK_NUMBERS], dest: &mut [u8]) -> Mapped
-    requires { Payable payload.now places.now }
-    ensures { IsMappedBill payload.now dest.old result dest.new }
+fn map_bill(bill: &Payload, dest: &mut [u8]) -> Result<Counts, Fault>
+    requires { Payable bill.now }
+    ensures { IsMappedBill bill.now dest.old result dest.new }
 {
-    let paid = places::line(payload, places, 19);
+    let paid = bill.line(19);
     if paid.len() == 0 {
-        return Mapped::Refused(Fault::NoAmount(19));
+        return Err(Fault::NoAmount(19));
     }
-    let mut buffer = [0; 370];
-    let counts = lay_fields(&mut buffer, payload, places);
+    let mut draft = Draft::blank();
+    let counts = draft.lay_fields(bill);
     let n = counts.bytes;
     if dest.len() < n {
-        return Mapped::Refused(Fault::NoRoom);
+        return Err(Fault::NoRoom);
     }
-    lay(dest, &buffer[0..n]);
-    Mapped::Laid(counts)
+    lay(dest, &draft.room[0..n]);
+    Ok(counts)
 }
 
 // The contents of SWIFT's fields 59a, 32B and 70 for a payload under an edition, all lines parted by CR LF, in the front of the destination,
 // and what is told of them. A refusal changes no byte.
-pub fn fields(payload: &[u8], edition: Edition, dest: &mut [u8]) -> Mapped
+pub fn fields(payload: &[u8], edition: Edition, dest: &mut [u8]) -> Result<Counts, Fault>
     ensures { IsMapped (swiss_in edition) payload.now dest.old result dest.new }
 {
     let mut places = [0; WALK_NUMBERS];
-    match judge_in(payload, &mut places, edition) {
-        Answer::Refused(f) => Mapped::Refused(f),
-        Answer::Accepted(_, _) => map_bill(payload, &places, dest),
-    }
+    judge_in(payload, &mut places, edition)?;
+    map_bill(&Payload::new(payload, &places), dest)
 }

@@ -1,3 +1,2 @@
 mod Addresses
 pub mod OneAnswer
-pub mod Texts

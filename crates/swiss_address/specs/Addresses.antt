@@ -1,23 +1,18 @@
 -- What is found in a text; seven lines from line n on, an address that is there, of type S or K, and one that is not. Assumes nothing.
-use Rattle.std.specs.Prelude.{ℕ, zero, suc, ◌+◌, ◌≤◌, Bool, ◌&&◌, List, [], ◌∷◌, ◌≡◌, ltb}
-use Rattle.std.proofs.Math.Option.{none}
+use Rattle.std.specs.Prelude.{ℕ, zero, suc, ◌+◌, Bool, ◌&&◌, List, [], ◌∷◌, ltb, Result, ⊤}
+use Rattle.sieve.specs.declared.Fault.{Fault}
+use Rattle.sieve.specs.declared.Fault.TheVariants.{Missing, TooLong}
 use Rattle.sieve.specs.Bytes.{Bytes}
 use Rattle.sieve.specs.Characters.{characters}
 use Rattle.sieve.specs.Kinds.{empty, filled, at_most, formed}
 use Rattle.sieve.specs.Rules.{Rule, no_text, is, has, always}
 use Rattle.swiss.specs.Forms.{country}
 use Rattle.swiss.specs.Limits.{name_most, street_most, house_number_most, address_line_most, postcode_most, town_most, structured}
-use Rattle.findings.specs.declared.Finding.{Finding}
-use Rattle.findings.specs.Findings.{as_finding, then_rule}
-use Rattle.places.specs.Listed.{listed}
+use Rattle.findings.specs.Findings.{unless, and_then}
 
 -- what is found in a line of at most so many characters, which is not empty when that is asked
-abbrev pub text_found : Bytes → ℕ → Bool → ℕ → Finding
-text_found l n when most = then_rule (then_rule (as_finding none) (when && no_text l) 8 n) (ltb most (characters l)) 9 n
-
--- the places are those of a payload's lines, and there is room for seven from line n on
-abbrev pub SevenFrom : Bytes → List ℕ → ℕ → Type 0
-SevenFrom p places n = (places ≡ listed p) × (1 ≤ n) × (n ≤ 28)
+abbrev pub text_found : Bytes → ℕ → Bool → ℕ → Result ⊤ Fault
+text_found l n when most = and_then (unless (when && no_text l) (Missing n)) (unless (ltb most (characters l)) (TooLong n))
 
 -- an address that is there, from line n on: its first four lines, and the other three
 abbrev pub addressee : ℕ → List Rule

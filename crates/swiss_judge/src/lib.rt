@@ -8,8 +8,7 @@ ghost use Rattle.sieve.specs.Verdict.{verdict};
 ghost use Rattle.swiss.specs.Swiss.{swiss_in, swiss};
 ghost use Rattle.whole.specs.Judged.{IsJudged};
 
-use findings::fault_of;
-use places::clear;
+use places::{Payload, clear};
 use sieve::{Answer, Charset, WALK_NUMBERS};
 use swiss::Edition;
 use swiss_rules::rules;
@@ -21,15 +20,14 @@ pub fn judge_in(payload: &[u8], places: &mut [u16; WALK_NUMBERS], edition: Editi
     ensures { IsJudged (swiss_in edition) payload.now result places.new }
 {
     match whole(payload, Edition::LIMITS, Charset::Latin, places) {
-        Answer::Refused(f) => Answer::Refused(f),
-        Answer::Accepted(n, k) => {
-            let found = rules(payload, places, n, edition);
-            if found.number != 0 {
+        Err(f) => Err(f),
+        Ok((n, k)) => match rules(&Payload::new(payload, places), n, edition) {
+            Ok(()) => Ok((n, k)),
+            Err(fault) => {
                 clear(places);
-                return Answer::Refused(fault_of(found));
+                Err(fault)
             }
-            Answer::Accepted(n, k)
-        }
+        },
     }
 }
 

@@ -1,9 +1,10 @@
 -- The list of rules of an edition, in three parts; what is found in a line with a number; an account that is one; a reference by its type. Assumes nothing.
-use Rattle.std.specs.Prelude.{ℕ, Bool, true, ◌&&◌, not, ◌≡◌}
+use Rattle.std.specs.Prelude.{ℕ, Bool, true, ◌&&◌, not, ◌≡◌, Result, ⊤}
 use mathlib.Core.List.{List, [], ◌∷◌, flatten}
-use Rattle.std.proofs.Math.Option.{none}
 use Rattle.std.specs.Borrow.{Bor}
 use denote.Triple.Both.{Both}
+use Rattle.sieve.specs.declared.Fault.{Fault}
+use Rattle.sieve.specs.declared.Fault.TheVariants.{Missing, BadForm, BadCheckDigits}
 use Rattle.sieve.specs.Bytes.{Bytes}
 use Rattle.sieve.specs.Kinds.{filled, formed, checked}
 use Rattle.sieve.specs.Lines.{cut, lines_of}
@@ -11,12 +12,11 @@ use Rattle.sieve.specs.Rules.{Rule, no_text, is_empty, has, always, never}
 use Rattle.swiss.specs.declared.Edition.{Edition}
 use Rattle.swiss.specs.Forms.{iban}
 use Rattle.swiss.specs.Swiss.{header, account, address, reserved, payment, reference, information, procedures, pairing, together}
-use Rattle.findings.specs.declared.Finding.{Finding}
-use Rattle.findings.specs.Findings.{as_finding, then_rule}
+use Rattle.findings.specs.Findings.{unless, and_then}
 
 -- what is found in a line that must be filled, of its form and with right check digits
-abbrev pub number_found : Bytes → ℕ → Bool → Bool → Finding
-number_found l n form check = then_rule (then_rule (then_rule (as_finding none) (no_text l) 8 n) (not (no_text l) && not form) 10 n) (not check) 11 n
+abbrev pub number_found : Bytes → ℕ → Bool → Bool → Result ⊤ Fault
+number_found l n form check = and_then (unless (no_text l) (Missing n)) (and_then (unless (not (no_text l) && not form) (BadForm n)) (unless (not check) (BadCheckDigits n)))
 
 -- line 4 of a payload is an IBAN
 abbrev pub HasAccount : Bytes → Type 0

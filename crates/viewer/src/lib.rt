@@ -31,13 +31,13 @@ fn begin(payload: &[u8]) -> Begun
 {
     let past = payload.len() + 1;
     match verdict(payload) {
-        Answer::Accepted(n, k) => Begun {
+        Ok((n, k)) => Begun {
             at: 0,
-            answer: Answer::Accepted(n, k),
+            answer: Ok((n, k)),
         },
-        Answer::Refused(f) => Begun {
+        Err(f) => Begun {
             at: past,
-            answer: Answer::Refused(f),
+            answer: Err(f),
         },
     }
 }
@@ -119,13 +119,11 @@ fn place_after(payload: &[u8], moves: usize) -> usize
     let begun = begin(payload);
     let past = payload.len() + 1;
     let mut at = begun.at;
-    let mut left = moves;
-    while left != 0 {
+    for _ in 0..moves {
         if at == past {
             return past;
         }
         at = after(payload, at);
-        left = left - 1;
     }
     at
 }

@@ -1,6 +1,6 @@
 -- Lines that are passed among sixteen bytes at once, from mark to mark. Assumes nothing.
 use Prim.Native.Nat.{ℕ, zero, suc, ◌+◌, ◌-◌, ◌*◌, ◌^◌, ◌≤◌, ◌<◌}
-use native.Mathlib.Nat.{add-zero, add_assoc, le_refl}
+use native.Mathlib.Nat.{add-zero, add_assoc}
 use native.Mathlib.Omega.{arith}
 use mathlib.Core.Bool.{true, false, true≢false}
 use mathlib.Core.List.{List}
@@ -20,9 +20,6 @@ use Rattle.walk.specs.declared.Ahead.{Ahead}
 use Rattle.walk.specs.Here.{Going, Among, Inside, Through, GoneThrough, Reached, GoneOn}
 use Rattle.walk.specs.Walking.{noted, behind_one_passed}
 use Rattle.walk.proofs.Coming.{plain_passed, line_feed, carriage_return, a_break_passed}
-
-pub stays : (s : Bytes) (l : List ℕ) (from : ℕ) (p : Behind) → Going s l from p l from p
-stays s l from p = record { onward = λ set h. h; forward = le_refl from }
 
 -- and on to a third place
 pub and_on : {s : Bytes} {l l' l'' : List ℕ} {from at to : ℕ} {p p' p'' : Behind} → Going s l from p l' at p' → Going s l' at p' l'' to p'' → Going s l from p l'' to p''
@@ -90,9 +87,6 @@ pub standing : {s : Bytes} {l l' : List ℕ} {from : ℕ} {a r : Ahead} → Insi
 standing i g =
     let t = g i.behind i.among in
     record { behind = t.behind; among = t.among; reached = record { set = i.reached.set; here = t.going.onward i.reached.set i.reached.here } }
-
-pub nowhere : (s : Bytes) (l : List ℕ) (from : ℕ) (a : Ahead) → GoneThrough s l from a l a
-nowhere s l from a n among = record { behind = n; among = among; going = stays s l (from + n) a.passed }
 
 pub and_through : {s : Bytes} {l l' l'' : List ℕ} {from : ℕ} {a b r : Ahead} → GoneThrough s l from a l' b → GoneThrough s l' from b l'' r → GoneThrough s l from a l'' r
 and_through g h n among =
@@ -168,9 +162,6 @@ pub record Onward (s : Bytes) (l : List ℕ) (from keep : ℕ) (p : Behind) (l' 
 -- a whole sixteen, nothing of which is behind the walk
 pub afresh : {s : Bytes} {l l' : List ℕ} {at from : ℕ} {p p' : Behind} → Going s l at p l' from p' → On s l at p l' from 0xFFFF p'
 afresh {from = from} g = record { skip = 0; keeps = refl; few = omega arith; whole = λ h. absurd (omega arith); going = rw (add-zero from) g }
-
-pub no_sixteen : (s : Bytes) (l : List ℕ) (from keep : ℕ) (p : Behind) → Onward s l from keep p l from keep p
-no_sixteen s l from keep p = record { sixteens = 0; place = omega arith; on = λ l₀ at p₀ o. o }
 
 module _ {s : Bytes} {l₀ l : List ℕ} {at from keep : ℕ} {p₀ p : Behind} (o : On s l₀ at p₀ l from keep p) where
   -- the marks that are kept are those of the bytes before it

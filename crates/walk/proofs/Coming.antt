@@ -5,7 +5,7 @@ use native.Mathlib.Omega.{arith}
 use mathlib.Core.Bool.{Bool, true, false, cond, ◌&&◌, and-eq-true_iff}
 use mathlib.Core.List.{List, ◌∷◌}
 use mathlib.Core.Logic.{◌≢◌}
-use mathlib.Core.Path.{◌≡◌, refl, sym, ap, ◌∙◌, subst}
+use mathlib.Core.Path.{◌≡◌, refl, sym, ap, ◌∙◌}
 use lib.Dec.{eqb, ltb}
 use lib.ListN.{length, get_or, drop, set, length-drop, get_or-eq_default}
 use lib.Seq.{drop-drop, get_or-drop}
@@ -195,10 +195,6 @@ module _ {set : Charset} {s : Bytes} {l : List ℕ} {passed : Behind} (here : He
 -- what of the numbers of lines that are behind the walk fits
 pub passable : {set : Charset} {s : Bytes} {l : List ℕ} {at : ℕ} {passed : Behind} (b : ℕ) → Here set s l at passed → 1 ≤ b → at + b < 2 ^ 64 → Passable passed at b
 passable b here w f = record { feeds = few here; returns = here.fewer; wide = w; fits = f }
-
--- where the walk stands at the start of a line
-pub at_start : {set : Charset} {s : Bytes} {l : List ℕ} {at : ℕ} {passed : Behind} → Here set s l at passed → passed.start ≡ at → Here set s l passed.start passed
-at_start {set} {s} {l} {at} {passed} here e = subst (λ (n : ℕ). Here set s l n passed) (sym e) here
 
 -- characters by themselves are passed
 pub plain_passed : (set : Charset) (s : Bytes) (l : List ℕ) (at : ℕ) (passed : Behind) (n : ℕ) → at + n ≤ length s → ((i : ℕ) → i < n → in_one (get_or s (at + i) 0) ≡ true) → Here set s l at passed → Here set s l (at + n) passed

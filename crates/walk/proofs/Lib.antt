@@ -1,5 +1,4 @@
 pub mod Stepping
 pub mod BySixteens
 pub mod Coming
-pub mod Telling
 pub mod OneAnswer

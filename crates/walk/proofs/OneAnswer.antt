@@ -5,4 +5,4 @@ use Rattle.walk.specs.contracts as contracts
 use Rattle.walk.proofs as fn
 
 pub one_walk : OneAnswer contracts.walk.ended fn.walk.Reads.Learnt
-one_walk κs a x y v w h k = (λ i. record { walked = (h.walked ∙ sym k.walked) i; parted = (h.parted ∙ sym k.parted) i }, ap (λ l. (w.0, (w.1.0, (l, w.1.1.1)))) (h.places ∙ sym k.places))
+one_walk κs a x y v w h k = (h.told ∙ sym k.told, ap (λ l. (w.0, (w.1.0, (l, w.1.1.1)))) (h.places ∙ sym k.places))

@@ -1,27 +1,23 @@
 -- What one walk over any bytes tells. Assumes nothing.
-use Rattle.std.specs.Prelude.{ℕ, ◌+◌, ◌-◌, ◌*◌, ◌%◌, ◌^◌, ◌≤◌, ◌<◌, cond, List, ◌≡◌, ltb, take, set, replicate}
+use Rattle.std.specs.Prelude.{ℕ, ◌+◌, ◌-◌, ◌*◌, ◌%◌, ◌^◌, ◌≤◌, ◌<◌, cond, Err, List, ◌≡◌, ltb, take, set, replicate}
 use Rattle.std.proofs.Math.Option.{Option, some, none}
 use Rattle.sieve.specs.Places.{walk_lines, walk_numbers}
-use Rattle.sieve.specs.declared.Break.TheVariants.{Lf}
+use Rattle.sieve.specs.declared.Fault.TheVariants.{BadCharacter}
 use Rattle.sieve.specs.Bytes.{Bytes}
 use Rattle.sieve.specs.Characters.{line_feeds}
-use Rattle.lines.specs.declared.Parted.TheVariants.{Alike}
+use Rattle.sieve.specs.Paper.{Answer}
 use Rattle.lines.specs.Parted.{breaks_in}
 use Rattle.places.specs.Listed.{listed_short}
-use Rattle.walk.specs.declared.Walked.{Walked}
-use Rattle.walk.specs.declared.Walked.TheVariants.{Clean, Bad}
 use Rattle.walk.specs.declared.Behind.{Behind}
-use Rattle.walk.specs.declared.Told.{Told}
 
--- clean, or the line (1 + LF bytes before) and the place of the first bad byte
-abbrev pub walked : Bytes → Option ℕ → Walked
-walked s none = Clean
-walked s (some at) = Bad (1 + line_feeds (take at s)) at
+-- the line (1 + LF bytes before) and the place of the first bad byte; where none is bad, how the lines are parted
+abbrev pub told : Bytes → Option ℕ → Answer
+told s none = breaks_in s
+told s (some at) = Err (BadCharacter (1 + line_feeds (take at s)) at)
 
--- all that one walk tells, and the list that it fills: where a byte is bad, of its lines nothing; of bytes that 16 bits do not count, no places
-pub record IsTold (s : Bytes) (o : Option ℕ) (r : Told) (after : List ℕ) : Type 0 where
-  pub walked : r.walked ≡ walked s o
-  pub parted : r.parted ≡ elim o [ none ↦ breaks_in s | some at ↦ Alike Lf 1 ]
+-- what one walk tells, and the list that it fills: where a byte is bad, no places, and of bytes that 16 bits do not count
+pub record IsTold (s : Bytes) (o : Option ℕ) (r : Answer) (after : List ℕ) : Type 0 where
+  pub told : r ≡ told s o
   pub places : after ≡ elim o [ none ↦ listed_short s | some at ↦ replicate walk_numbers 0 ]
 
 -- on the way

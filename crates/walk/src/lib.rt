@@ -12,27 +12,12 @@ ghost use Rattle.walk.specs.Here.{Reached, Inside, GoneThrough, GoneOn, Arrived,
 ghost use Rattle.walk.specs.Walking.{noted, behind_one_passed, Passable, IsTold};
 
 use characters::{characters_in, first_marked, later_marks, marks_at, plain_run};
-use lines::{Parted, feed_after, parts};
+use lines::{feed_after, parts};
 use places::clear;
-use sieve::{Break, Charset, WALK_LINES, WALK_NUMBERS};
+use sieve::{Answer, Break, Charset, Fault, WALK_LINES, WALK_NUMBERS};
 
 // The greatest number of 16 bits.
 const GREATEST: usize = 65535;
-
-// What the walk over characters and breaks finds.
-#[derive(Clone, Copy)]
-pub enum Walked {
-    Clean,
-    // the line, and the byte's place
-    Bad(usize, usize),
-}
-
-// All that one walk tells, beside the list that it fills. Where a byte is bad, the lines are not told: one line.
-#[derive(Clone, Copy)]
-pub struct Told {
-    pub walked: Walked,
-    pub parted: Parted,
-}
 
 // The lines that are behind the walk: the breaks that ended them, how many of these are CR LF, and where the next line
 // starts.
@@ -231,16 +216,16 @@ fn come(s: &[u8], set: Charset, places: &mut [u16; WALK_NUMBERS]) -> Standing
 
 // How lines are parted of which all but the last are behind the walk, by their number where that is enough: none of the
 // breaks is CR LF, or each is. Only in bytes that are refused is the first unlike one looked for.
-fn counted(s: &[u8], passed: Behind) -> Parted
+fn counted(s: &[u8], passed: Behind) -> Answer
     requires { AllBehind s.now passed }
     ensures { result ≡ breaks_in s.now }
 {
     let lines = passed.feeds + 1;
     if passed.returns == 0 {
-        return Parted::Alike(Break::Lf, lines);
+        return Ok((lines, Break::Lf));
     }
     if passed.returns == passed.feeds {
-        return Parted::Alike(Break::CrLf, lines);
+        return Ok((lines, Break::CrLf));
     }
     parts(s)
 }
@@ -252,11 +237,9 @@ fn list_absent(s: &[u8], places: &mut [u16], n: usize)
     ensures { places.new ≡ listed s.now }
 {
     let end = s.len();
-    let mut i = n;
-    while i < WALK_LINES {
+    for i in n..WALK_LINES {
         places[2 * i] = end as u16;
         places[2 * i + 1] = 0;
-        i += 1;
     }
 }
 
@@ -275,9 +258,10 @@ fn list(s: &[u8], passed: Behind, places: &mut [u16; WALK_NUMBERS])
     list_absent(s, places, feeds + 1);
 }
 
-// The whole walk, over any bytes. The list that is lent gets start and length of each of 34 lines; it is cleared where
-// a byte is bad, or where the bytes are more than 16 bits count.
-pub fn walk(s: &[u8], set: Charset, places: &mut [u16; WALK_NUMBERS]) -> Told
+// The whole walk, over any bytes: where they stop to be characters and breaks; else how their lines are parted. The list
+// that is lent gets start and length of each of 34 lines; it is cleared where a byte is bad, or where the bytes are more
+// than 16 bits count.
+pub fn walk(s: &[u8], set: Charset, places: &mut [u16; WALK_NUMBERS]) -> Answer
     ensures { IsTold s.now (bad_place (of_set set) s.now) result places.new }
 {
     let standing = come(s, set, places);
@@ -285,14 +269,8 @@ pub fn walk(s: &[u8], set: Charset, places: &mut [u16; WALK_NUMBERS]) -> Told
     let passed = standing.passed;
     if at < s.len() {
         clear(places);
-        return Told {
-            walked: Walked::Bad(1 + passed.feeds, at),
-            parted: Parted::Alike(Break::Lf, 1),
-        };
+        return Err(Fault::BadCharacter(1 + passed.feeds, at));
     }
     list(s, passed, places);
-    Told {
-        walked: Walked::Clean,
-        parted: counted(s, passed),
-    }
+    counted(s, passed)
 }

@@ -9,14 +9,13 @@ use lib.Dec.{leb}
 use lib.ListN.{length, replicate}
 use borrow.Author.Tests.{ltb-false, le-leb}
 use Rattle.sieve.specs.Places.{walk_numbers}
-use Rattle.sieve.specs.declared.Answer.{Answer}
-use Rattle.sieve.specs.declared.Answer.TheVariants.{Accepted, Refused}
+use Rattle.sieve.specs.Paper.{Answer, paper_fault, paper}
+use Rattle.std.specs.Prelude.{Ok, Err}
 use Rattle.sieve.specs.declared.Break.{Break}
 use Rattle.sieve.specs.declared.Fault.{Fault}
 use Rattle.sieve.specs.Bytes.{Bytes}
 use Rattle.sieve.specs.Characters.{Width}
 use Rattle.sieve.specs.Lines.{cut, lines_of, bill_of}
-use Rattle.sieve.specs.Paper.{paper_fault, paper}
 use Rattle.sieve.specs.Rules.{Rule, Layout}
 use Rattle.sieve.specs.Verdict.{Verdict, accepted, refused, findings, first, decided, verdict}
 use Rattle.sieve.specs.Whole.{limited, bare, limits_of}
@@ -36,20 +35,20 @@ judged L p v l = record { answer = sym v; places = l ∙ sym (ap (judged_places 
 -- from a layout to one with more rules about lines behind its own
 module _ (L : Layout) (rs : List Rule) (p : Bytes) where
   -- what is refused before they are asked is refused
-  pub refused_before : {f : Fault} {after : List ℕ} → IsJudged L p (Refused f) after → IsJudged (with_more L rs) p (Refused f) after
+  pub refused_before : {f : Fault} {after : List ℕ} → IsJudged L p (Err f) after → IsJudged (with_more L rs) p (Err f) after
   refused_before {f} is = judged _ p (before_refused L rs p (paper_fault f) (sym is.answer)) (is.places ∙ sym (ap (judged_places p) is.answer))
 
   -- else they decide
 
-  module _ {n : ℕ} {k : Break} {places : List ℕ} (is : IsJudged L p (Accepted n k) places) where
-    pub kept : first (in_lines rs p) ≡ none → IsJudged (with_more L rs) p (Accepted n k) places
+  module _ {n : ℕ} {k : Break} {places : List ℕ} (is : IsJudged L p (Ok (n, k)) places) where
+    pub kept : first (in_lines rs p) ≡ none → IsJudged (with_more L rs) p (Ok (n, k)) places
     kept nothing = judged _ p (more_kept L rs p n k (sym is.answer) nothing) (is.places ∙ sym (ap (judged_places p) is.answer))
 
-    pub broken : {r : Answer} {after : List ℕ} (f : Fault) → first (in_lines rs p) ≡ some (paper_fault f) → r ≡ Refused f → after ≡ replicate walk_numbers 0 → IsJudged (with_more L rs) p r after
+    pub broken : {r : Answer} {after : List ℕ} (f : Fault) → first (in_lines rs p) ≡ some (paper_fault f) → r ≡ Err f → after ≡ replicate walk_numbers 0 → IsJudged (with_more L rs) p r after
     broken f found same gone = rw same (judged _ p (more_broken L rs p n k (sym is.answer) (paper_fault f) found) gone)
 
 -- of what is accepted, the list has the places of the lines, and the count is theirs
-pub counted : (L : Layout) (p : Bytes) {n : ℕ} {k : Break} {places : List ℕ} → IsJudged L p (Accepted n k) places → L.most_bytes ≤ greatest → (places ≡ listed p) × (n ≡ length (lines_of (cut p)))
+pub counted : (L : Layout) (p : Bytes) {n : ℕ} {k : Break} {places : List ℕ} → IsJudged L p (Ok (n, k)) places → L.most_bytes ≤ greatest → (places ≡ listed p) × (n ≡ length (lines_of (cut p)))
 unfolding bill_of
 counted L p is few =
     let accepted-is = settled_accepts (bill_of p) (first (findings L p)) (sym (verdict_is L p) ∙ sym is.answer) in

@@ -1,11 +1,13 @@
-use Prim.Native.Nat.{◌+◌, ◌-◌, ◌*◌, ◌≤◌}
+use Prim.Native.Nat.{◌+◌, ◌*◌, ◌≤◌}
 use mathlib.Core.Path.{◌≡◌}
 use lib.ListN.{length, drop}
+use Rattle.std.specs.Slice.Iter.{chunks_exact_rest, chunks_exact_size}
 use Rattle.characters.specs.Runs.{accents}
 use Rattle.characters.proofs.accented.Given as goal
 
-abbrev pub invariant-loop-at : goal.invariant-loop-at
-invariant-loop-at l = (l.from ≤ l.at) × (l.at ≤ length l.s) × (l.from + 2 * accents (drop l.from l.s) ≡ l.at + 2 * accents (drop l.at l.s))
-
-abbrev pub decreases-loop-at : goal.decreases-loop-at
-decreases-loop-at l = length l.s - l.at
+abbrev pub invariant-loop-two : goal.invariant-loop-two
+invariant-loop-two l = record {
+  few : l.n + length (chunks_exact_rest l.two-iterator) ≤ length l.s;
+  by_two : chunks_exact_size l.two-iterator ≡ 2;
+  all : 2 * accents (drop l.from l.s) ≡ l.n + 2 * accents (chunks_exact_rest l.two-iterator);
+}

@@ -1,18 +1,10 @@
--- `characters::plain_run` meets its contract. The invariant: all bytes up to `i` are of the run. Assumes nothing.
-use native.Mathlib.Omega.{arith}
-use mathlib.Core.Path.{sym, ◌∙◌}
+-- `characters::plain_run` meets its contract: the run ends at the first byte that does not pass the test. Assumes nothing.
+use mathlib.Core.Path.{◌∙◌}
+use Rattle.std.proofs.Common.{rules}
+use Rattle.std.proofs.iter.runs.Made.{chains}
 use Rattle.sieve.specs.Latin.{in_one}
-use Rattle.characters.proofs.Runs.{passed, stopped, ended}
+use Rattle.characters.proofs.Runs.{first_other}
 use Rattle.characters.proofs.plain_run.Goals as goal
 
-pub loop-i-preserved : goal.loop-i-preserved
-loop-i-preserved c =
-    c.loop-i.invariant ∙ passed in_one c.args.s.now c.loop-i.i c.loop-i-test.true (sym c.of_kind.ensures ∙ c.if-of_kind.true)
-
-pub returns-else-of_kind : goal.returns-else-of_kind
-returns-else-of_kind c =
-    omega (arith, c.loop-i.invariant, stopped in_one c.args.s.now c.loop-i.i c.loop-i-test.true (sym c.of_kind.ensures ∙ c.if-of_kind.false))
-
 pub returns : goal.returns
-returns c =
-    omega (arith, c.loop-i.invariant, ended in_one c.args.s.now c.loop-i.i c.loop-i-test.false)
+returns c = c.unwrap_or.ensures ∙ first_other in_one c.position.result c.args.s.now (search (rules, chains))

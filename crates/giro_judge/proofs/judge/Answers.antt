@@ -4,7 +4,8 @@ use mathlib.Core.Bool.{Bool, true, cond}
 use mathlib.Core.List.{List, flatten}
 use mathlib.Core.Path.{◌≡◌, refl, sym, ap, ◌∙◌}
 use lib.Dec.{lit≤}
-use Rattle.sieve.specs.declared.Answer.{Answer}
+use lib.ListN.{length}
+use Rattle.sieve.specs.Paper.{Answer}
 use Rattle.sieve.specs.declared.Charset.{Charset}
 use Rattle.sieve.specs.Bytes.{Bytes}
 use Rattle.sieve.specs.Charsets.{of_set}
@@ -13,11 +14,12 @@ use Rattle.sieve.specs.Latin.{latin}
 use Rattle.sieve.specs.Lines.{cut, lines_of}
 use Rattle.sieve.specs.Whole.{limited, bare, limits_of}
 use Rattle.girocode.specs.Girocode.{rules, girocode}
-use Rattle.findings.proofs.Looking.{numbered, found_nothing, found_fault}
+use Rattle.findings.proofs.FirstFault.{numbered, found_nothing, found_fault}
+use Rattle.places.specs.Listed.{listed}
 use Rattle.whole.specs.Judged.{IsJudged}
 use Rattle.whole.proofs.Judging.{refused_before, kept, broken, counted, by_its_lines}
 use Rattle.giro_judge.proofs.judge.Goals as goal
-use Rattle.giro_judge.proofs.judge.Goals.{Joined-iso, then-iso, else-iso}
+use Rattle.giro_judge.proofs.judge.Goals.{In-Ok, Joined-iso, then-iso, else-iso}
 
 rules_numbered : numbered rules ≡ true
 unfolding rules flatten numbered
@@ -38,29 +40,30 @@ by_choice c =
     by_its_lines girocode _ (of_set c.if-iso.set)
     (elim c.if-iso.branch [ then-iso w ↦ chosen_so coded w.if-iso.true w.set-is refl | else-iso w ↦ chosen_so coded w.if-iso.false w.set-is refl ])
 
-pub rules-found-requires : goal.rules-found-requires
+-- the list and the count of what is accepted are those of its lines
+listed_and_counted : (c : In-Ok) → (c.whole.new.places ≡ listed c.args.payload.now) × (c.in-Ok.n ≡ length (lines_of (cut c.args.payload.now)))
 unfolding girocode
-rules-found-requires c =
-    let judged = rw c.in-Accepted.is at (by_choice (goal.at.rules-found-requires c).Joined-iso c.whole.ensures) in
-    let (listed_is, count_is) = counted (bare girocode) c.args.payload.now judged (lit≤ tt) in
-    (record { listed = listed_is; coded = c.read_as_iso-iso.ensures }, record { listed = listed_is; counted = count_is })
+listed_and_counted c = counted (bare girocode) c.args.payload.now (rw c.in-Ok.is at (by_choice (goal.at.In-Ok c).Joined-iso c.whole.ensures)) (lit≤ tt)
 
-pub returns-then-found-ne0 : goal.returns-then-found-ne0
-unfolding girocode
-returns-then-found-ne0 c =
-    let judged = rw c.in-Accepted.is at (by_choice (goal.at.returns-then-found-ne0 c).Joined-iso c.whole.ensures) in
-    let found = c.rules-found.ensures in
-    let is_fault = rw (← found, ← c.fault_of.ensures) at (found_fault (ls c.args.payload.now) rules rules_numbered (rw found at c.if-found-ne0.true)) in
-    broken (bare girocode) rules c.args.payload.now judged c.fault_of.result is_fault refl c.clear.ensures
+pub new-requires : goal.new-requires
+new-requires c = (listed_and_counted (goal.at.new-requires c).In-Ok).0
 
-pub returns-in-Refused : goal.returns-in-Refused
-unfolding girocode
-returns-in-Refused c =
-    refused_before (bare girocode) rules c.args.payload.now (rw c.in-Refused.is at (by_choice (goal.at.returns-in-Refused c).Joined-iso c.whole.ensures))
+pub rules-requires : goal.rules-requires
+rules-requires c = rw c.new.ensures (c.read_as_iso-iso.ensures, (listed_and_counted (goal.at.rules-requires c).In-Ok).1)
 
-pub returns-else-found-ne0 : goal.returns-else-found-ne0
+pub returns-in-Err : goal.returns-in-Err
 unfolding girocode
-returns-else-found-ne0 c =
-    let judged = rw c.in-Accepted.is at (by_choice (goal.at.returns-else-found-ne0 c).Joined-iso c.whole.ensures) in
-    let found = c.rules-found.ensures in
-    kept (bare girocode) rules c.args.payload.now judged (found_nothing (ls c.args.payload.now) rules rules_numbered (rw found at c.if-found-ne0.false))
+returns-in-Err c =
+    refused_before (bare girocode) rules c.args.payload.now (rw c.in-Err.is at (by_choice (goal.at.returns-in-Err c).Joined-iso c.whole.ensures))
+
+pub returns-in-Ok-rules : goal.returns-in-Ok-rules
+unfolding girocode
+returns-in-Ok-rules c =
+    let judged = rw c.in-Ok.is at (by_choice (goal.at.returns-in-Ok-rules c).Joined-iso c.whole.ensures) in
+    kept (bare girocode) rules c.args.payload.now judged (found_nothing (ls c.args.payload.now) rules rules_numbered (rw c.new.ensures at (sym c.rules.ensures) ∙ c.in-Ok-rules.is))
+
+pub returns-in-Err-rules : goal.returns-in-Err-rules
+unfolding girocode
+returns-in-Err-rules c =
+    let judged = rw c.in-Ok.is at (by_choice (goal.at.returns-in-Err-rules c).Joined-iso c.whole.ensures) in
+    broken (bare girocode) rules c.args.payload.now judged c.in-Err-rules.fault (found_fault (ls c.args.payload.now) rules rules_numbered (rw c.new.ensures at (sym c.rules.ensures) ∙ c.in-Err-rules.is)) refl c.clear.ensures

@@ -2,6 +2,7 @@
 use native.Mathlib.Omega.{arith}
 use mathlib.Core.Path.{refl, ap, ◌∙◌}
 use lib.ListN.{length}
+use Rattle.std.proofs.lemmas.Result.{err_from_is_err_and}
 use Rattle.sieve.specs.Lines.{bill_of}
 use Rattle.sieve.proofs.Placing.{list_length}
 use Rattle.girocode.specs.Girocode.{girocode}
@@ -12,17 +13,19 @@ use Rattle.giro_reader.proofs.read.Goals as goal
 
 pub returns-then-list-lt-LIST_SIZE : goal.returns-then-list-lt-LIST_SIZE
 unfolding girocode
-returns-then-list-lt-LIST_SIZE c = ends_short c.judge.ensures c.in-Accepted.is c.if-list-lt-LIST_SIZE.true refl
+returns-then-list-lt-LIST_SIZE c = ends_short c.judge.ensures c.in_ok-n.was c.if-list-lt-LIST_SIZE.true refl
 
-pub returns-in-Refused : goal.returns-in-Refused
-returns-in-Refused c = ends_refused c.judge.ensures c.in-Refused.is refl
+pub returns-in_err-n : goal.returns-in_err-n
+returns-in_err-n c =
+    let (f, is, same) = err_from_is_err_and c.from_residual.result c.from_residual.ensures.1 in
+    rw (is, same) (ends_refused c.judge.ensures c.in_err-n.was refl)
 
-pub returns-else-list-lt-LIST_SIZE : goal.returns-else-list-lt-LIST_SIZE
+pub returns : goal.returns
 unfolding girocode
-returns-else-list-lt-LIST_SIZE c =
+returns c =
     let judged = c.judge.ensures in
     let bill = bill_of c.args.payload.now in
-    let shown = all_shown (rw c.in-Accepted.is at judged) in
+    let shown = all_shown (rw c.in_ok-n.was at judged) in
     let size = ap length shown ∙ list_length girocode bill in
-    let laid = c.fill.ensures.list_after ∙ laid_in_lem _ _ (omega (arith, size, c.if-list-lt-LIST_SIZE.false)) in
-    ends_listed judged c.in-Accepted.is c.if-list-lt-LIST_SIZE.false (rw (size, shown) at laid)
+    let laid = c.lay.ensures.dest_after ∙ laid_in_lem _ _ (omega (arith, size, c.if-list-lt-LIST_SIZE.false)) in
+    ends_listed judged c.in_ok-n.was c.if-list-lt-LIST_SIZE.false (rw (size, shown) at laid)

@@ -8,23 +8,28 @@ use Rattle.glance.specs.FixedLines.{fourth_start}
 use Rattle.glance.proofs.Fronts.{not_far}
 use Rattle.glance.proofs.fourth_start.Goals as goal
 
-pub returns-then-second-eq0 : goal.returns-then-second-eq0
+pub returns-in_err-second : goal.returns-in_err-second
 unfolding fourth_start
-returns-then-second-eq0 c = rw (← c.gone_past-second.ensures, c.if-second-eq0.true)
+returns-in_err-second c = rw c.from_residual.ensures (rw c.in_err-second.ensures)
 
-pub gone_past-third-requires : goal.gone_past-third-requires
-gone_past-third-requires c = omega (arith, not_far (ascii qr_type) 0 c.args.head.now, c.gone_past-second.ensures)
+pub gone_past-requires-2 : goal.gone_past-requires-2
+gone_past-requires-2 c = omega (arith, not_far (ascii qr_type) 0 c.args.head.now, c.in_ok-second.ensures.0)
 
-pub returns-then-third-eq0 : goal.returns-then-third-eq0
+pub returns-in_err-third : goal.returns-in_err-third
 unfolding fourth_start
-returns-then-third-eq0 c = rw (← c.gone_past-second.ensures, ne_eqb _ 0 c.if-second-eq0.false, ← c.gone_past-third.ensures, c.if-third-eq0.true)
+returns-in_err-third c =
+    let (second, some) = c.in_ok-second.ensures in
+    rw c.from_residual-in_err-third.ensures (rw (← second, ne_eqb c.in_ok-second.second 0 (λ e. omega arith), c.in_err-third.ensures))
 
-pub gone_past-requires : goal.gone_past-requires
-gone_past-requires c =
+pub gone_past-requires-3 : goal.gone_past-requires-3
+gone_past-requires-3 c =
     let s = c.args.head.now in
-    let second = c.gone_past-second in
-    omega (arith, not_far (ascii qr_type) 0 s, second.ensures, not_far (ascii version) second.result (drop second.result s), c.gone_past-third.ensures)
+    let second = c.in_ok-second.second in
+    omega (arith, not_far (ascii qr_type) 0 s, c.in_ok-second.ensures.0, not_far (ascii version) second (drop second s), c.in_ok-third.ensures.0)
 
 pub returns : goal.returns
 unfolding fourth_start
-returns c = rw (← c.gone_past-second.ensures, ne_eqb _ 0 c.if-second-eq0.false, ← c.gone_past-third.ensures, ne_eqb _ 0 c.if-third-eq0.false) c.gone_past.ensures
+returns c =
+    let (second, some) = c.in_ok-second.ensures in
+    let (third, more) = c.in_ok-third.ensures in
+    rw (← second, ne_eqb c.in_ok-second.second 0 (λ e. omega arith), ← third, ne_eqb c.in_ok-third.third 0 (λ e. omega arith)) c.gone_past-3.ensures

@@ -2,7 +2,7 @@
 use Prim.Native.Nat.{ℕ, ◌+◌}
 use native.Mathlib.Omega.{arith}
 use mathlib.Core.Path.{◌≡◌, sym, ◌∙◌, ap}
-use lib.ListN.{drop, length-drop}
+use lib.ListN.{length, drop, length-drop}
 use Rattle.sieve.specs.Characters.{break_width}
 use Rattle.lines.proofs.Fronts.{break_fits}
 use Rattle.lines.proofs.FirstLine.{no_break, goes_on, stops, ends}
@@ -26,8 +26,14 @@ loop-at-preserved c =
     let none : break_width (drop i s) ≡ 0 = elim c.if-of_break.branch [ then-of_break+else-b-ne0 w ↦ sym w.break_width-b.ensures ∙ w.if-b-ne0.false | else-of_break w ↦ no_break s i c.loop-at-test.true (sym c.of_break.ensures ∙ w.if-of_break.false) ] in
     omega (arith, goes_on s i c.loop-at-test.true none)
 
-pub returns : goal.returns
-returns c =
-    let l = c.loop-at in
-    let e = ends c.args.s.now l.at c.loop-at-test.false in
+pub returns-then-from-s : goal.returns-then-from-s
+returns-then-from-s c =
+    let s = c.args.s.now in
+    let e = ends s c.loop-at.at c.loop-at-test.false in
+    let f = ends s (length s) (omega arith) in
+    record { end = omega arith; next = omega arith }
+
+pub returns-else-from-s : goal.returns-else-from-s
+returns-else-from-s c =
+    let e = ends c.args.s.now c.args.from c.if-from-s.false in
     record { end = omega arith; next = omega arith }

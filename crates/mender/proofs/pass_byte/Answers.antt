@@ -6,7 +6,7 @@ use Rattle.mender.proofs.pass_byte.Goals as goal
 
 pub returns-then-x-ne13 : goal.returns-then-x-ne13
 returns-then-x-ne13 c =
-    let put = c.put-next.ensures in
+    let put = c.put-reach.ensures in
     after_byte c.args.payload.now c.args.i c.args.t c.args.room.now c.requires (ne_eqb _ _ c.if-x-ne13.true) put.farther put.carries
 
 pub returns-then-feed_after : goal.returns-then-feed_after
@@ -15,5 +15,5 @@ returns-then-feed_after c =
 
 pub returns : goal.returns
 returns c =
-    let put = c.put-next-2.ensures in
+    let put = c.put-reach-2.ensures in
     after_lone c.args.payload.now c.args.i c.args.t c.args.room.now c.requires (eq-eqb _ _ c.if-x-ne13.false) (sym c.feed_after.ensures ∙ c.if-feed_after.false) put.farther put.carries

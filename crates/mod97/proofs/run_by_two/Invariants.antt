@@ -1,11 +1,11 @@
-use Prim.Native.Nat.{◌-◌, ◌%◌, ◌≤◌, ◌<◌}
+use Prim.Native.Nat.{◌*◌, ◌%◌, ◌<◌}
 use mathlib.Core.Path.{◌≡◌}
-use lib.ListN.{length, drop}
+use lib.ListN.{drop}
 use Rattle.sieve.specs.Mod97.{numeral}
 use Rattle.mod97.proofs.run_by_two.Given as goal
 
 abbrev pub invariant-loop-i : goal.invariant-loop-i
-invariant-loop-i l = (l.i ≤ length l.s) × (l.i % 2 ≡ 0) × (l.r < 97) × (numeral l.n l.s % 97 ≡ numeral l.r (drop l.i l.s) % 97)
-
-abbrev pub decreases-loop-i : goal.decreases-loop-i
-decreases-loop-i l = length l.s - l.i
+invariant-loop-i l = record {
+  small : l.r < 97;
+  all : numeral l.n l.s % 97 ≡ numeral l.r (drop (2 * l.i) l.s) % 97;
+}

@@ -28,9 +28,6 @@ returns-then-most-length c = sym (handed_over_lem _ _ (omega (arith, chosen (goa
 pub returns-then-most-length-2 : goal.returns-then-most-length-2
 returns-then-most-length-2 c = sym (handed_over_lem _ _ (omega (arith, chosen (goal.at.returns-then-most-length-2 c).Joined-held-most, c.if-most-length.false, c.if-most-length-2.true)))
 
-pub slice_bounds-lay-end : goal.slice_bounds-lay-end
-slice_bounds-lay-end c = omega (arith, chosen (goal.at.slice_bounds-lay-end c).Joined-held-most, c.if-most-length.false)
-
 pub returns : goal.returns
 returns c =
     let a = c.args in

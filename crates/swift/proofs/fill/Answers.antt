@@ -1,4 +1,7 @@
 -- `swift::fill` meets its contract: byte by byte, what the row holds and what is left of the text are together the same. Assumes nothing.
+use native.Mathlib.Omega.{arith}
+use mathlib.Core.Path.{◌≡◌}
+use lib.ListN.{length}
 use Rattle.swift.proofs.Rows.{passed_over, put_as_is, put_stop, at_the_brim, at_the_end}
 use Rattle.swift.proofs.fill.Goals as goal
 use Rattle.swift.proofs.fill.Goals.{then-in_x, else-in_x+then-begins, else-in_x+else-begins}
@@ -18,4 +21,4 @@ loop-at-preserved c =
     ]
 
 pub returns : goal.returns
-returns c = at_the_end c.loop-at.invariant c.loop-at-test.false
+returns c = let end : c.loop-at.at ≡ length c.args.text.now = omega arith in rw end at (at_the_end c.loop-at.invariant c.loop-at-test.false)

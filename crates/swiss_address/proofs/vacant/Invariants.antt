@@ -1,5 +1,5 @@
 -- The lines before line i are empty. Assumes nothing.
-use Prim.Native.Nat.{ℕ, ◌+◌, ◌-◌, ◌≤◌}
+use Prim.Native.Nat.{ℕ, ◌+◌, ◌-◌}
 use mathlib.Core.List.{List}
 use mathlib.Core.Path.{◌≡◌}
 use Rattle.sieve.specs.Lines.{cut, lines_of}
@@ -13,7 +13,4 @@ abbrev pub rest : ℕ → ℕ → List Rule
 rest n i = empty_from i (n + 7 - i)
 
 abbrev pub invariant-loop-i : goal.invariant-loop-i
-invariant-loop-i l = (l.n ≤ l.i) × (l.i ≤ l.n + 7) × (finds (rest l.n l.i) (lines_of (cut l.payload)) ≡ finds (vacant l.n) (lines_of (cut l.payload)))
-
-abbrev pub decreases-loop-i : goal.decreases-loop-i
-decreases-loop-i l = l.n + 7 - l.i
+invariant-loop-i l = finds (rest l.n l.i) (lines_of (cut l.bill)) ≡ finds (vacant l.n) (lines_of (cut l.bill))

@@ -1,8 +1,7 @@
 -- `viewer::place_after` meets its contract: what is left to move, from where it stands, leads to the same place. Assumes nothing.
-use Prim.Native.Nat.{ℕ, zero, suc, ◌-◌}
+use Prim.Native.Nat.{ℕ, suc, ◌-◌}
 use native.Mathlib.Omega.{arith}
-use mathlib.Core.Logic.{◌≢◌}
-use mathlib.Core.Path.{◌≡◌, refl, sym, ap, ◌∙◌}
+use mathlib.Core.Path.{◌≡◌, sym, ap, ◌∙◌}
 use Rattle.sieve.specs.Bytes.{Bytes}
 use Rattle.sieve.specs.Verdict.{verdict}
 use Rattle.swiss.specs.Swiss.{swiss}
@@ -21,25 +20,22 @@ module _ (p : Bytes) (s : ℕ) where
   stays i at e h = sym (ap (moved_from p i) e ∙ no_further p i) ∙ h
 
   -- one move less from one line on
-  goes_on : (i at next : ℕ) → i ≢ 0 → next ≡ next_from p at → moved_from p i at ≡ s → moved_from p (i - 1) next ≡ s
+  goes_on : (i j at next : ℕ) → i ≡ suc j → next ≡ next_from p at → moved_from p i at ≡ s → moved_from p j next ≡ s
   unfolding moved_from
-  goes_on zero at next n e h = absurd (n refl)
-  goes_on (suc i) at next n e h =
-      let one_less : suc i - 1 ≡ i = omega arith in
-      rw one_less (ap (moved_from p i) e ∙ h)
+  goes_on i j at next n e h = ap (moved_from p j) e ∙ rw n at h
 
   arrives : (i at : ℕ) → i ≡ 0 → moved_from p i at ≡ s → at ≡ s
   unfolding moved_from
   arrives i at e h = sym (ap (λ (j : ℕ). moved_from p j at) e) ∙ h
 
-pub loop-left-init : goal.loop-left-init
-loop-left-init c = begins _ _ _ c.begin-begun.ensures.at
+pub loop-init : goal.loop-init
+loop-init c = let all : c.args.moves - 0 ≡ c.args.moves = omega arith in rw all (begins _ _ _ c.begin-begun.ensures.at)
 
 pub returns-then-at-past : goal.returns-then-at-past
-returns-then-at-past c = stays _ _ _ _ c.if-at-past.true c.loop-left.invariant
+returns-then-at-past c = stays _ _ _ _ c.if-at-past.true c.loop.invariant
 
-pub loop-left-preserved : goal.loop-left-preserved
-loop-left-preserved c = goes_on _ _ _ _ _ c.loop-left-test.true c.after-at.ensures c.loop-left.invariant
+pub loop-preserved : goal.loop-preserved
+loop-preserved c = goes_on _ _ _ _ _ _ (omega (arith, c.loop-test.true)) c.after-at.ensures c.loop.invariant
 
 pub returns : goal.returns
-returns c = arrives _ _ _ _ c.loop-left-test.false c.loop-left.invariant
+returns c = arrives _ _ _ _ (omega (arith, c.loop-test.false)) c.loop.invariant

@@ -1,6 +1,0 @@
--- `swift::lay_line` meets its contract. Assumes nothing.
-use Rattle.swift.proofs.Pages.{line_put}
-use Rattle.swift.proofs.lay_line.Goals as goal
-
-pub returns : goal.returns
-returns c = line_put c.lay_row-laid.ensures
