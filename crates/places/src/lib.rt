@@ -22,12 +22,12 @@ pub fn clear(places: &mut [u16; WALK_NUMBERS])
 // A payload that was walked over: its bytes, which a contract sees, with the places of its lines, by the list that the
 // walk made.
 #[derive(Drop)]
-pub struct Payload<'a> {
+pub struct Payload<'a, 'b> {
     bytes: &'a [u8],
-    places: &'a [u16; WALK_NUMBERS],
+    places: &'b [u16; WALK_NUMBERS],
 }
 
-impl<'a> Model for Payload<'a> {
+impl<'a, 'b> Model for Payload<'a, 'b> {
     ghost Value = { Bytes };
 
     ghost view = { λ p. p.bytes.now };
@@ -35,15 +35,15 @@ impl<'a> Model for Payload<'a> {
     ghost invariant = { λ p. p.places.now ≡ listed p.bytes.now };
 }
 
-impl<'a> Payload<'a> {
-    pub fn new(bytes: &'a [u8], places: &'a [u16; WALK_NUMBERS]) -> Payload<'a>
+impl<'a, 'b> Payload<'a, 'b> {
+    pub fn new(bytes: &'a [u8], places: &'b [u16; WALK_NUMBERS]) -> Payload<'a, 'b>
         requires { places.now ≡ listed bytes.now }
         ensures { result ≡ bytes.now }
     {
         Payload { bytes, places }
     }
 
-    // Line n, as that part of the payload.
+    // Line n, as that part of the payload: it stays where the list is gone.
     pub fn line(&self, n: usize) -> &'a [u8]
         requires { (1 ≤ n) × (n ≤ walk_lines) }
         ensures { result.now ≡ line n (lines_of (cut self.now)) }
