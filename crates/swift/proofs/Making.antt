@@ -87,6 +87,6 @@ module _ (ls : List Bytes) {b₀ b₁ b₂ : Bytes} {p₁ p₂ : Page} (i : IsFo
               ∙ take_at (contents ls) (break_bytes CrLf) (p₃.at - 2) (sym bytes);
         }
 
--- the length told is that of the contents, and lies within the buffer
+-- the length told is that of the contents
 pub as_told : {ls : List Bytes} {after : Bytes} {r : Counts} → AreMade ls after r → r.bytes ≡ length (contents ls)
 as_told counts-are = ap (λ (c : Counts). c.bytes) counts-are.counts

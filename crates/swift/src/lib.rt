@@ -335,7 +335,9 @@ impl Draft {
         self.lay_remittance(add(line, reference), 1, message);
     }
 
-    // Lays a line with a text behind its prefix.
+    // Lays a line with a text behind its prefix. It is inlined, as is the next one: each such line took about 100
+    // instructions more by a call.
+    #[inline(always)]
     fn lay_text(&mut self, prefix: &[u8], text: &[u8])
         requires { Open self.old.room self.old.page 1 × (length prefix.now ≤ 1024) × (length text.now ≤ 1024) }
         ensures { IsTextLaid self prefix text }
@@ -344,6 +346,7 @@ impl Draft {
     }
 
     // Lays line n of an accepted bill behind a prefix.
+    #[inline(always)]
     fn lay_bill_line(&mut self, bill: &Payload, n: usize, prefix: &[u8])
         requires fact { Open self.old.room self.old.page 1 × Payable bill.now }
         requires le_n { (1 ≤ n) × (n ≤ walk_lines) × (length prefix.now ≤ 1024) }

@@ -40,7 +40,9 @@ fn number_found(l: &[u8], n: usize, form: bool, check: bool) -> Result<(), Fault
     checked(n, check)
 }
 
-// Line 4. Most accounts have digits alone, and are right.
+// Line 4. Most accounts have digits alone, and are right. It is inlined: by a call, whose answer lies in memory, a reading
+// took 31 instructions and 96 bytes of stack more.
+#[inline(always)]
 pub fn account(l: &[u8]) -> Result<(), Fault>
     ensures { result ≡ finds account (from 4 (l.now ∷ [])) }
 {
