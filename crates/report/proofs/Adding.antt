@@ -19,7 +19,7 @@ use Rattle.report.specs.Laying.{said}
 use Rattle.report.specs.Spoken.{in_decimal, spoken_place}
 
 -- the front of a line, and a text behind it
-added_in_front : (n : ℕ) (d l rest : Bytes) → n ≤ length d → take (n + length l) (take n d ++ (l ++ rest)) ≡ take n d ++ l
+pub added_in_front : (n : ℕ) (d l rest : Bytes) → n ≤ length d → take (n + length l) (take n d ++ (l ++ rest)) ≡ take n d ++ l
 added_in_front n d l rest h =
     let e : length (take n d ++ l) ≡ n + length l = omega (arith, length-append (take n d) l, length-take-le n d h) in
     rw (← append_assoc (take n d) l rest, ← e) (take-append_seam (take n d ++ l) rest)

@@ -105,12 +105,12 @@ module _ (ls : List Bytes) where
 
     module _ (absent : When) where
       -- whether it is absent decides it
-      by_absence : (e : Edition) (b : Bool) → absent ls ≡ b → finds (address e n (λ (ls : List Bytes). b)) ls ≡ finds (address e n absent) ls
+      pub by_absence : (e : Edition) (b : Bool) → absent ls ≡ b → finds (address e n (λ (ls : List Bytes). b)) ls ≡ finds (address e n absent) ls
       unfolding finds
       by_absence e b a = rw a
 
     -- of type S
-    there : finds (addressee n ++ locality n) ls ≡ finds (address V24 n never) ls
+    pub there : finds (addressee n ++ locality n) ls ≡ finds (address V24 n never) ls
     unfolding finds
     there = refl
 
@@ -119,7 +119,7 @@ module _ (ls : List Bytes) where
 
     module _ (e : Edition) where
       -- where it is not of type K, the editions ask the same
-      alike : (absent : When) → is_combined e n ls ≡ false → finds (address V24 n absent) ls ≡ finds (address e n absent) ls
+      pub alike : (absent : When) → is_combined e n ls ≡ false → finds (address V24 n absent) ls ≡ finds (address e n absent) ls
       unfolding finds
       alike absent = by_cases e
         where
@@ -128,7 +128,7 @@ module _ (ls : List Bytes) where
           by_cases V24 k = refl
 
       -- what 2.4 takes is not of type K
-      not_of_K : finds (address V24 n never) ls ≡ Ok tt → is_combined e n ls ≡ false
+      pub not_of_K : finds (address V24 n never) ls ≡ Ok tt → is_combined e n ls ≡ false
       unfolding numbered
       not_of_K h = by_cases e (not_combined (line n ls) (found_none _ _ (each_none (map (about_lines ls) (address V24 n never)) (found_nothing ls (address V24 n never) refl h) 1)))
         where

@@ -25,23 +25,23 @@ module _ (ls : List Bytes) where
   abbrev l : ℕ → Bytes
   l n = line n ls
 
-  of_header : finds header ls ≡ finds header (l 1 ∷ l 2 ∷ l 3 ∷ [])
+  pub of_header : finds header ls ≡ finds header (l 1 ∷ l 2 ∷ l 3 ∷ [])
   unfolding finds
   of_header = refl
 
-  of_account : finds account ls ≡ finds account (from 4 (l 4 ∷ []))
+  pub of_account : finds account ls ≡ finds account (from 4 (l 4 ∷ []))
   unfolding finds
   of_account = refl
 
-  of_payment : finds payment ls ≡ finds payment (from 19 (l 19 ∷ l 20 ∷ []))
+  pub of_payment : finds payment ls ≡ finds payment (from 19 (l 19 ∷ l 20 ∷ []))
   unfolding finds
   of_payment = refl
 
-  of_reference : finds reference ls ≡ finds reference (from 28 (l 28 ∷ l 29 ∷ []))
+  pub of_reference : finds reference ls ≡ finds reference (from 28 (l 28 ∷ l 29 ∷ []))
   unfolding finds
   of_reference = refl
 
-  of_information : finds information ls ≡ finds information (from 30 (l 30 ∷ l 31 ∷ l 32 ∷ []))
+  pub of_information : finds information ls ≡ finds information (from 30 (l 30 ∷ l 31 ∷ l 32 ∷ []))
   unfolding finds
   of_information = refl
 
